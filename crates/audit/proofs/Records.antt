@@ -1,0 +1,38 @@
+-- What the test of one record finds: sound, or why not.
+-- What carries it: the two parts of the test, each read as the fact that it tests. Assumes nothing.
+use mathlib.Core.Path.{_≡_, refl, ap, _∙_}
+use mathlib.Core.Bool.{Bool, true, false}
+use mathlib.Core.List.{List}
+use mathlib.Core.Logic.{_⊎_, ⊎-elim}
+use Prim.Native.Nat.{ℕ, zero, suc, _≤_, _<_}
+use native.Mathlib.Omega.{arith}
+use lib.ListN.{getD}
+use Rattle.table.specs.Kind.{top, faces, freeMark, used}
+use Rattle.table.specs.Table.{dim, face, facesOf}
+use Rattle.table.specs.Audit.{recordSound}
+use Rattle.audit.proofs.Valid.{record-kind, record-unused}
+
+pub not-true-false : (b : Bool) → (b ≡ true → ⊥) → b ≡ false
+not-true-false true h = absurd (h refl)
+not-true-false false h = refl
+
+pub no-kind : (t : List ℕ) (c : ℕ) → top < dim t c → (dim t c ≡ freeMark → ⊥) → recordSound t c ≡ false
+no-kind t c h g =
+    not-true-false (recordSound t c) (λ e. ⊎-elim (λ l. omega arith) g (record-kind t c e))
+
+pub not-unused : (t : List ℕ) (c j : ℕ) → used (dim t c) ≤ j → j < faces → (face t c j ≡ freeMark → ⊥) → recordSound t c ≡ false
+not-unused t c j h l g = not-true-false (recordSound t c) (λ e. g (record-unused t c e j h l))
+
+seven : (t : List ℕ) (c j : ℕ) → j < faces → getD (facesOf t c) j 0 ≡ face t c j
+seven t c zero h = refl
+seven t c (suc zero) h = refl
+seven t c (suc (suc zero)) h = refl
+seven t c (suc (suc (suc zero))) h = refl
+seven t c (suc (suc (suc (suc zero)))) h = refl
+seven t c (suc (suc (suc (suc (suc zero))))) h = refl
+seven t c (suc (suc (suc (suc (suc (suc zero)))))) h = refl
+seven t c (suc (suc (suc (suc (suc (suc (suc j))))))) h = omega arith
+
+-- the seven words by value are the record's faces
+pub faces-at : (t : List ℕ) (c : ℕ) (fs : List ℕ) → fs ≡ facesOf t c → (j : ℕ) → j < faces → getD fs j 0 ≡ face t c j
+faces-at t c fs e j h = ap (λ l. getD l j 0) e ∙ seven t c j h

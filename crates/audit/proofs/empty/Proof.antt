@@ -1,0 +1,71 @@
+-- `audit::empty` meets its contract. The invariant: the words below k are the free mark, and the others as they were.
+-- The measure: what is left of the words. Assumes nothing.
+use mathlib.Core.Path.{_≡_, sym, ap, _∙_}
+use mathlib.Core.List.{_++_}
+use Prim.Native.Nat.{_≤_, _-_}
+use native.Mathlib.Omega.{arith}
+use borrow.Author.Fill.{fill-more}
+use borrow.Author.Needs.{needs}
+use lib.ListN.{length, set, replicate, drop}
+use Rattle.table.specs.Kind.{freeMark}
+use Rattle.audit.proofs.Empties.{filled-is-emptied}
+use Rattle.audit.proofs.Verdicts.{empty-refuses, empty-accepts}
+use Rattle.audit.proofs.empty.Statement.{statement}
+use Rattle.audit.proofs.empty.Tie as tie
+
+abbrev Inv-loop : tie.InvT-loop
+Inv-loop t₀ cells k₀ t k = (k ≤ length t₀) × (length t ≡ length t₀) × (t ≡ replicate k freeMark ++ drop k t₀)
+
+abbrev μ-loop : tie.MeasureT-loop
+μ-loop t₀ cells k₀ t k = length t₀ - k
+
+of-requires : tie.Need-of-requires Inv-loop μ-loop
+of-requires c κs = search needs
+
+same-length : tie.Need-same-length Inv-loop μ-loop
+same-length c = search needs
+
+returns : tie.Need-returns Inv-loop μ-loop
+returns c = empty-refuses (c .before .before .before .before .args .t .now) (sym (c .before .of .ensures) ∙ c .if1 .taken)
+
+loop-holds : tie.Need-loop-holds Inv-loop μ-loop
+loop-holds c = search needs
+
+mul-t : tie.Need-mul-t Inv-loop μ-loop
+mul-t c = omega arith
+
+slice-write-t : tie.Need-slice-write-t Inv-loop μ-loop
+slice-write-t c = omega arith
+
+add-k : tie.Need-add-k Inv-loop μ-loop
+add-k c = omega arith
+
+loop-less : tie.Need-loop-less Inv-loop μ-loop
+loop-less c = omega arith
+
+loop-again : tie.Need-loop-again Inv-loop μ-loop
+loop-again c = let at = c .before .loop in (omega arith, search needs, ap (λ l. set l (at .k) freeMark) (at .inv .2) ∙ fill-more (at .k) freeMark (c .before .before .before .before .before .before .args .t .now) (omega arith))
+
+same-length-2 : tie.Need-same-length-2 Inv-loop μ-loop
+same-length-2 c = search needs
+
+returns-2 : tie.Need-returns-2 Inv-loop μ-loop
+returns-2 c = let t = c .before .before .before .before .before .before .args .t .now in let at = c .before .loop in empty-accepts t (at .t) (λ e. c .before .before .if1 .left (c .before .before .before .of .ensures ∙ e)) (filled-is-emptied t (at .t) (at .k) (at .inv .0) (omega arith) (at .inv .2))
+
+pub empty-spec : {M : Type 1} → statement M
+empty-spec =
+    tie.close
+    (tie.spec
+    Inv-loop
+    μ-loop
+    of-requires
+    same-length
+    returns
+    loop-holds
+    mul-t
+    slice-write-t
+    add-k
+    loop-less
+    loop-again
+    same-length-2
+    returns-2)

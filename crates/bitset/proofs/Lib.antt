@@ -1,0 +1,6 @@
+pub mod Digits
+pub mod Marks
+pub mod LowBit
+pub mod Greatest
+pub mod Words
+pub mod Adding

@@ -1,0 +1,73 @@
+-- `add` meets its contract. The invariant: the words passed are sums, the others are as they came. The measure: the words left. Assumes nothing.
+use mathlib.Core.Path.{_≡_}
+use Prim.Native.Nat.{_≤_, _-_}
+use native.Mathlib.Omega.{arith}
+use lib.ListN.{length, length-set}
+use Rattle.bitset.proofs.Adding.{PartSum, part-none, part-more, part-all}
+use borrow.Author.Needs.{needs}
+use Rattle.bitset.proofs.add.Statement.{statement}
+use Rattle.bitset.proofs.add.Tie as tie
+
+abbrev Inv-loop : tie.InvT-loop
+Inv-loop into₀ from w₀ into w = (w ≤ length from) × (length into ≡ length into₀) × PartSum into₀ from w into
+
+abbrev μ-loop : tie.MeasureT-loop
+μ-loop into₀ from w₀ into w = length from - w
+
+loop-holds : tie.Need-loop-holds Inv-loop μ-loop
+loop-holds c = (search needs, search needs, part-none _ _)
+
+mul-into : tie.Need-mul-into Inv-loop μ-loop
+mul-into c = search needs
+
+slice-read-into : tie.Need-slice-read-into Inv-loop μ-loop
+slice-read-into c = search needs
+
+mul-into-2 : tie.Need-mul-into-2 Inv-loop μ-loop
+mul-into-2 c = search needs
+
+shared-slice-read-into : tie.Need-shared-slice-read-into Inv-loop μ-loop
+shared-slice-read-into c = search needs
+
+mul-into-3 : tie.Need-mul-into-3 Inv-loop μ-loop
+mul-into-3 c = search needs
+
+slice-write-into : tie.Need-slice-write-into Inv-loop μ-loop
+slice-write-into c = search needs
+
+add-w : tie.Need-add-w Inv-loop μ-loop
+add-w c = search needs
+
+loop-less : tie.Need-loop-less Inv-loop μ-loop
+loop-less c = search needs
+
+loop-again : tie.Need-loop-again Inv-loop μ-loop
+loop-again c =
+    let a = c .before .before .before .before in
+    let l = c .before .before .before .loop in
+    (omega arith, simp length-set (l .inv .1), part-more (a .args .into .now) (a .args .from .now) (l .w) (l .into) (omega (arith, a .pre)) (l .inv .2))
+
+same-length : tie.Need-same-length Inv-loop μ-loop
+same-length c = search needs
+
+returns : tie.Need-returns Inv-loop μ-loop
+returns c = part-all _ _ (c .before .loop .w) _ (c .before .before .pre) (c .loop-test .left) (c .before .loop .inv .2)
+
+pub add-spec : {M : Type 1} → statement M
+add-spec =
+    tie.close
+    (tie.spec
+    Inv-loop
+    μ-loop
+    loop-holds
+    mul-into
+    slice-read-into
+    mul-into-2
+    shared-slice-read-into
+    mul-into-3
+    slice-write-into
+    add-w
+    loop-less
+    loop-again
+    same-length
+    returns)

@@ -1,0 +1,2 @@
+pub mod ConeRule
+pub mod Runs

@@ -1,0 +1,4 @@
+pub mod Living
+pub mod Families
+pub mod Pairs
+pub mod Boundary

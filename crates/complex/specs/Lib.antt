@@ -1,0 +1,2 @@
+pub mod SemiSimplicial
+pub mod Cells

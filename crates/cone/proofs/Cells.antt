@@ -1,0 +1,29 @@
+-- Live and free numbers by the two tests that decide them: inside the table, and a dimension or none. Assumes nothing.
+use mathlib.Core.Path.{_≡_}
+use mathlib.Core.Bool.{true, false}
+use mathlib.Core.List.{List}
+use Prim.Native.Nat.{ℕ, _≤_, _<_}
+use borrow.Author.Tests.{lt-ltb, le-ltb, lt-leb}
+use Rattle.table.specs.Kind.{top}
+use Rattle.table.specs.Table.{cellsOf, dim, live}
+use Rattle.audit.proofs.Sizes.{live-says}
+use Rattle.cone.specs.Cone.{free}
+use Rattle.cone.proofs.GivenNumbers.{not-live-free, live-not-free}
+
+module _ (t : List ℕ) (c : ℕ) where
+  pub low-live : c < cellsOf t → dim t c ≤ top → live t c ≡ true
+  low-live h l = live-says t c (record { inside = h; low = l })
+
+  pub high-not-live : c < cellsOf t → top < dim t c → live t c ≡ false
+  unfolding live
+  high-not-live h l = rw (lt-ltb c (cellsOf t) h, lt-leb (dim t c) top l)
+
+  pub outside-not-live : cellsOf t ≤ c → live t c ≡ false
+  unfolding live
+  outside-not-live h = rw (le-ltb c (cellsOf t) h)
+
+  pub high-free : c < cellsOf t → top < dim t c → free t c ≡ true
+  high-free h l = not-live-free t c h (high-not-live h l)
+
+  pub low-not-free : c < cellsOf t → dim t c ≤ top → free t c ≡ false
+  low-not-free h l = live-not-free t c (low-live h l)

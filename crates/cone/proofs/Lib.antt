@@ -1,0 +1,10 @@
+pub mod Acceptance
+pub mod GivenNumbers
+pub mod Stores
+pub mod Cells
+pub mod Searches
+pub mod Numbering
+pub mod Sides
+pub mod Building
+pub mod Turns
+pub mod Refusals

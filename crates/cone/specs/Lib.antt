@@ -1,0 +1,3 @@
+pub mod Cone
+pub mod Record
+pub mod Parts

@@ -1,0 +1,82 @@
+-- The tests of one cell, what the two passes that fix the new numbers leave, and what the writing of the new cells starts from.
+-- A reader need not believe this file: it says what the parts of the call hand to one another.
+use mathlib.Core.Path.{_≡_}
+use mathlib.Core.Bool.{Bool, true, _&&_, not}
+use mathlib.Core.List.{List, [], _∷_}
+use Prim.Native.Nat.{ℕ, suc, _+_, _≤_, _<_}
+use lib.ListN.{length, getD}
+use lib.Dec.{eqb, ltb}
+use Rattle.bitset.specs.Bits.{wordsFor, member}
+use Rattle.table.specs.Kind.{capacity, top, freeMark, pick, used}
+use Rattle.table.specs.Table.{cellsOf, dim, face, live}
+use Rattle.counting.specs.Counting.{howMany, nth, someHas}
+use Rattle.table.specs.Audit.{sized, onValidity}
+use Rattle.table.specs.Calls.{Ground}
+use Rattle.table.specs.declared.Refusal.the-variants.{Length, NotLive, NotClosed, TopMarked}
+use Rattle.table.specs.declared.Verdict.the-variants.{Accepted}
+use Rattle.cone.specs.Cone.{free, apexOf, coneOf, markedNotLive, notClosed, topMarked, coneVerdict}
+
+-- c is marked and no live cell
+abbrev pub strayAt : List ℕ → List ℕ → ℕ → Bool
+strayAt t marks c = member marks c && not (live t c)
+
+-- face j of cell c is not marked
+abbrev pub openFace : List ℕ → List ℕ → ℕ → ℕ → Bool
+openFace t marks c j = not (member marks (face t c j))
+
+-- c is marked and one of its faces is not
+abbrev pub openAt : List ℕ → List ℕ → ℕ → Bool
+openAt t marks c = member marks c && someHas (openFace t marks c) (used (dim t c))
+
+-- c is marked and has the top dimension
+abbrev pub topAt : List ℕ → List ℕ → ℕ → Bool
+topAt t marks c = member marks c && eqb (dim t c) top
+
+-- fs lists the free numbers of t in rising order, r of them
+pub record Frees (t : List ℕ) (r : ℕ) (fs : List ℕ) : Type 0 where
+  pub count : r ≡ howMany (free t) (cellsOf t)
+  pub few : r ≤ capacity
+  pub size : length fs ≡ capacity
+  pub at : (k : ℕ) → k < r → getD fs k 0 ≡ nth (free t) (cellsOf t) k
+
+-- r cells below n are marked, and each has at its place in ns the entry of fs after those of the marked cells below it
+pub record Given (marks : List ℕ) (n : ℕ) (fs : List ℕ) (count r : ℕ) (ns : List ℕ) : Type 0 where
+  pub marked : r ≡ howMany (member marks) n
+  pub few : r ≤ capacity
+  pub size : length ns ≡ capacity
+  pub at : (s : ℕ) → s < n → member marks s ≡ true → 1 + howMany (member marks) s < count → getD ns s 0 ≡ getD fs (1 + howMany (member marks) s) 0
+
+-- face j of the cone over the p-cell s: the apex at a point, else side j, then s itself, then nothing
+unfoldable pub overFace : ℕ → ℕ → ℕ → (ℕ → ℕ) → ℕ → ℕ
+overFace p s apex side j =
+    pick (eqb j (suc p)) s (pick (ltb (suc p) j) freeMark (pick (eqb p 0) apex (side j)))
+
+-- cell s has room for a cone above it, its faces have an entry in ns, and its own entry lies inside the table
+pub record Coneable (t ns : List ℕ) (s : ℕ) : Type 0 where
+  pub inside : s < cellsOf t
+  pub few : cellsOf t ≤ capacity
+  pub low : dim t s < top
+  pub size : length ns ≡ capacity
+  pub sides : (j : ℕ) → j < used (dim t s) → face t s j < capacity
+  pub place : getD ns s 0 < cellsOf t
+
+-- nothing refuses the cone, and its numbers are fixed
+pub record Ready (t marks : List ℕ) (apex : ℕ) (ns : List ℕ) : Type 0 where
+  pub accepted : coneVerdict t marks ≡ Accepted
+  pub is-apex : apex ≡ apexOf t
+  pub size : length ns ≡ capacity
+  pub numbers : (s : ℕ) → member marks s ≡ true → getD ns s 0 ≡ coneOf t marks s
+
+-- the grounds that only the marks give, and all but the room
+abbrev pub markGrounds : List ℕ → List ℕ → List Ground
+markGrounds t marks =
+    record { refusal = NotLive; applies = markedNotLive t marks }
+    ∷ record { refusal = NotClosed; applies = notClosed t marks }
+    ∷ record { refusal = TopMarked; applies = topMarked t marks }
+    ∷ []
+
+abbrev pub earlyGrounds : List ℕ → List ℕ → List Ground
+earlyGrounds t marks =
+    record { refusal = Length; applies = not (sized t && eqb (length marks) (wordsFor (cellsOf t))) }
+    ∷ onValidity t
+    ∷ markGrounds t marks

@@ -1,0 +1,60 @@
+// Cone over a closed set of marked cells. All new numbers are fixed before a face is written, since after merges a face can have a
+// higher number than its cell.
+ghost use mathlib.Core.Path.{_≡_};
+ghost use Rattle.table.specs.Calls.{verdict, Ends};
+ghost use Rattle.table.specs.declared.Verdict.the-variants.{Accepted};
+ghost use Rattle.cone.specs.Cone.{coneAnswer, coneLeaves};
+ghost use Rattle.cone.specs.Parts.{earlyGrounds};
+
+mod marks;
+mod numbers;
+mod raising;
+mod record;
+
+use table::Named;
+use table::Refusal;
+use table::Table;
+use table::Verdict;
+
+// Refused with 1, 2, 3, 7 or 8, in that order. The room is asked once the free numbers are known.
+fn judged(t: &[u16], marks: &[u64]) -> Verdict
+    ensures { λ r. ⌜ r ≡ verdict (earlyGrounds (now (t .entry)) (now (marks .entry))) ⌝ }
+{
+    if marks.len() != bitset::words_for(t.len() / Table::WORDS) {
+        return Verdict::Refused(Refusal::Length);
+    }
+    let valid = audit::audit(t);
+    match valid {
+        Verdict::Refused(r) => Verdict::Refused(r),
+        Verdict::Accepted => marks::asked(t, marks),
+    }
+}
+
+// Fixes the new numbers and writes the new cells, or is refused with 9.
+fn built(t: &mut [u16], marks: &[u64]) -> Named
+    requires { ⌜ verdict (earlyGrounds (now t) (now marks)) ≡ Accepted ⌝ }
+    ensures { λ r. ⌜ Ends (coneAnswer (now (t .entry)) (now (marks .entry))) (coneLeaves (now (t .entry)) (now (marks .entry))) r (now (t .exit)) ⌝ }
+{
+    let n = t.len() / Table::WORDS;
+    let mut frees = [0u16; Table::CAPACITY];
+    let mut given = [0u16; Table::CAPACITY];
+    let count = numbers::free_numbers(t, &mut frees);
+    let marked = numbers::cone_numbers(marks, n, &frees, count, &mut given);
+    if count <= marked {
+        return Named::NoCell(Refusal::NoRoom);
+    }
+    let apex = frees[0];
+    raising::raise(t, marks, apex, &given);
+    Named::Cell(apex)
+}
+
+// Adds a point and a cone over each marked cell. Refused with 1, 2, 3, 7, 8, 9, in that order; then no word changes.
+pub fn cone(t: &mut [u16], marks: &[u64]) -> Named
+    ensures { λ r. ⌜ Ends (coneAnswer (now (t .entry)) (now (marks .entry))) (coneLeaves (now (t .entry)) (now (marks .entry))) r (now (t .exit)) ⌝ }
+{
+    let early = judged(t, marks);
+    match early {
+        Verdict::Refused(r) => Named::NoCell(r),
+        Verdict::Accepted => built(t, marks),
+    }
+}

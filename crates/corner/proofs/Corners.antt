@@ -1,0 +1,78 @@
+-- Laws of corners in a valid table: a point is its own corner; a lower corner is a corner of the last face, the last corner one of
+-- face 0. What carries it: a face of a live cell is live, one dimension down. Assumes nothing.
+use mathlib.Core.Path.{_≡_, refl, ap, sym, _∙_}
+use mathlib.Core.List.{List}
+use Prim.Native.Nat.{ℕ, zero, suc, _+_, _-_, _≤_, _<_}
+use native.Mathlib.Omega.{arith}
+use borrow.Author.Tests.{lt-ltb, le-ltb}
+use Rattle.table.specs.Kind.{used}
+use Rattle.table.specs.Table.{dim, face, Live, Valid}
+use Rattle.audit.proofs.Places.{used-is}
+use Rattle.corner.specs.Corner.{cornerAt, cornerOf}
+
+pub corner-as : (t : List ℕ) (c k q : ℕ) → dim t c ≡ q → cornerOf t c k ≡ cornerAt t q c k
+unfolding cornerOf
+corner-as t c k q e = ap (λ (n : ℕ). cornerAt t n c k) e
+
+pub corner-of-point : (t : List ℕ) (c k : ℕ) → dim t c ≡ 0 → cornerOf t c k ≡ c
+unfolding cornerAt
+corner-of-point t c k e = corner-as t c k 0 e
+
+module _ (t : List ℕ) (v : Valid t) (c p : ℕ) (l : Live t c) (e : dim t c ≡ suc p) where
+  -- places 0 to p + 1 are used
+  pub place-used : (j : ℕ) → j ≤ suc p → j < used (dim t c)
+  place-used j h = omega (arith, used-is (dim t c) (omega arith) (l .low))
+
+  pub face-lives : (j : ℕ) → j ≤ suc p → Live t (face t c j)
+  face-lives j h = v .face-live c j l (place-used j h)
+
+  pub face-level : (j : ℕ) → j ≤ suc p → dim t (face t c j) ≡ p
+  face-level j h = omega (arith, v .face-dim c j l (place-used j h))
+
+  pub corner-lower : (k : ℕ) → k < suc p → cornerOf t c k ≡ cornerOf t (face t c (suc p)) k
+  unfolding cornerAt
+  corner-lower k h =
+      corner-as t c k (suc p) e
+      ∙ rw (lt-ltb k (suc p) h) (sym (corner-as t (face t c (suc p)) k p (face-level (suc p) (omega arith))))
+
+  pub corner-last : (k : ℕ) → k ≡ suc p → cornerOf t c k ≡ cornerOf t (face t c 0) p
+  unfolding cornerAt
+  corner-last k h =
+      corner-as t c k (suc p) e
+      ∙ rw (le-ltb k (suc p) (omega arith)) (sym (corner-as t (face t c 0) p p (face-level 0 (omega arith))))
+
+-- The two calls on a face, as the code makes them: p is the cell's dimension, not 0, and f the face. What the call asks, with the
+-- dimension below the cell's; and what its answer says of the cell's corner.
+module _ (t : List ℕ) (c p k f m : ℕ) (v : Valid t) (l : Live t c) (e : p ≡ dim t c) (n : p ≡ 0 → ⊥) (is : dim t c ≡ m) where
+  below : dim t c ≡ suc (p - 1)
+  below = omega (arith, nonzero p n)
+    where
+      nonzero : (q : ℕ) → (q ≡ 0 → ⊥) → 1 ≤ q
+      nonzero zero h = absurd (h refl)
+      nonzero (suc q) h = omega arith
+
+  face-asked : (j : ℕ) → j ≤ p → f ≡ face t c j → (Live t f) × (dim t f ≡ p - 1)
+  face-asked j h i =
+      let u : j ≤ suc (p - 1) = omega (arith, below) in
+      rw i (face-lives t v c (p - 1) l below j u, face-level t v c (p - 1) l below j u)
+
+  pub lower-asks : k < p → f ≡ face t c p → (dim t f < m) × (Valid t × (Live t f × (k ≤ dim t f)))
+  lower-asks h i =
+      let a = face-asked p (omega arith) i in
+      (omega (arith, a .1, below), (v, (a .0, omega (arith, a .1))))
+
+  pub lower-answers : k < p → f ≡ face t c p → (r : ℕ) → r ≡ cornerOf t f k → r ≡ cornerOf t c k
+  lower-answers h i r q =
+      let s : p ≡ suc (p - 1) = omega (arith, below) in
+      q ∙ ap (λ (x : ℕ). cornerOf t x k) (i ∙ ap (face t c) s)
+      ∙ sym (corner-lower t v c (p - 1) l below k (omega (arith, below)))
+
+  pub last-asks : f ≡ face t c 0 → (dim t f < m) × (Valid t × (Live t f × (p - 1 ≤ dim t f)))
+  last-asks i =
+      let a = face-asked 0 (omega arith) i in
+      (omega (arith, a .1, below), (v, (a .0, omega (arith, a .1))))
+
+  pub last-answers : p ≤ k → k ≤ dim t c → f ≡ face t c 0 → (r : ℕ) → r ≡ cornerOf t f (p - 1) → r ≡ cornerOf t c k
+  last-answers g h i r q =
+      q ∙ ap (λ (x : ℕ). cornerOf t x (p - 1)) i
+      ∙ sym (corner-last t v c (p - 1) l below k (omega (arith, below)))

@@ -1,0 +1,3 @@
+pub mod Corners
+pub mod CornerAnswers
+pub mod Vertices

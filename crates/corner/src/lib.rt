@@ -1,0 +1,56 @@
+// Corners: the lookup calls itself on a face, and the cell's dimension falls at each call.
+ghost use mathlib.Core.Path.{_≡_};
+ghost use Prim.Native.Nat.{_≤_, _<_};
+ghost use Rattle.table.specs.Table.{dim as dimOf, Valid, Live};
+ghost use Rattle.corner.specs.Corner.{cornerOf, cornerAnswer};
+use table::Named;
+use table::Refusal;
+use table::Table;
+use table::Verdict;
+
+// Corner k of a live cell of a valid table.
+fn corner_of(t: &[u16], c: u16, k: u16) -> u16
+    requires { ⌜ Valid (now t) ⌝ }
+    requires { ⌜ Live (now t) c ⌝ }
+    requires { ⌜ k ≤ dimOf (now t) c ⌝ }
+    ensures { λ r. ⌜ r ≡ cornerOf (now (t .entry)) c k ⌝ }
+{
+    let p = Table::dim(t, c as usize);
+    if p == 0 {
+        return c;
+    }
+    if k < p {
+        return corner_of(t, Table::face(t, c as usize, p as usize), k);
+    }
+    corner_of(t, Table::face(t, c as usize, 0), p - 1)
+}
+
+// Corner k of cell c. Refused with 1, 2, 3, 12, in that order.
+pub fn corner(t: &[u16], c: u16, k: u16) -> Named
+    ensures { λ r. ⌜ r ≡ cornerAnswer (now (t .entry)) c k ⌝ }
+{
+    let valid = audit::audit(t);
+    match valid {
+        Verdict::Refused(r) => Named::NoCell(r),
+        Verdict::Accepted => of_valid(t, c, k),
+    }
+}
+
+// The same once the table is known to be valid.
+fn of_valid(t: &[u16], c: u16, k: u16) -> Named
+    requires { ⌜ Valid (now t) ⌝ }
+    ensures { λ r. ⌜ r ≡ cornerAnswer (now (t .entry)) c k ⌝ }
+{
+    let n = Table::of(t).cells;
+    if c as usize >= n {
+        return Named::NoCell(Refusal::NotLive);
+    }
+    let p = Table::dim(t, c as usize);
+    if p > Table::TOP {
+        return Named::NoCell(Refusal::NotLive);
+    }
+    if k > p {
+        return Named::NoCell(Refusal::NoSuchPlace);
+    }
+    Named::Cell(corner_of(t, c, k))
+}

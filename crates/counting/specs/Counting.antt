@@ -1,0 +1,21 @@
+-- Counting numbers that have a property, and picking the k-th of them.
+-- A reader must believe these definitions; nothing here is proved.
+use mathlib.Core.Bool.{Bool, true, false, _&&_, _||_, not}
+use Prim.Native.Nat.{ℕ, zero, suc, _+_}
+use lib.Dec.{eqb}
+use Rattle.table.specs.Kind.{pick}
+
+-- how many numbers below n have f
+unfoldable pub howMany : (ℕ → Bool) → ℕ → ℕ
+howMany f zero = 0
+howMany f (suc n) = howMany f n + pick (f n) 1 0
+
+-- the number below n that has f and has k numbers with f below it; n where there is none
+unfoldable pub nth : (ℕ → Bool) → ℕ → ℕ → ℕ
+nth f zero k = 0
+nth f (suc n) k = pick (f n && eqb (howMany f n) k) n (pick (eqb (nth f n k) n) (suc n) (nth f n k))
+
+-- whether a number below n has f
+unfoldable pub someHas : (ℕ → Bool) → ℕ → Bool
+someHas f zero = false
+someHas f (suc n) = someHas f n || f n

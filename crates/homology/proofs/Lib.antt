@@ -1,0 +1,12 @@
+pub mod Marks
+pub mod Parity
+pub mod Counting
+pub mod Chains
+pub mod Tops
+pub mod ChainKinds
+pub mod HoleCells
+pub mod Selections
+pub mod Witness
+pub mod Elimination
+pub mod HoleTheorem
+pub mod Unique

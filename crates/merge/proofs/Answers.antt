@@ -1,0 +1,119 @@
+-- Both orders of asking have one answer and leave one table; what an accepted merge leaves is valid and is the published
+-- identification; a refused one leaves the table.
+-- What carries it: every ground, and the map, is the same for both orders. Assumes nothing.
+use mathlib.Core.Path.{_≡_, refl, ap, ap₂, sym, subst, _∙_, fun-ext}
+use mathlib.Core.Bool.{Bool, true, false, _&&_, not}
+use mathlib.Core.List.{List, [], _∷_}
+use mathlib.Core.Logic.{⊎-elim}
+use Prim.Native.Nat.{ℕ, min}
+use native.Mathlib.Nat.{min-comm}
+use borrow.Author.Tests.{eq-eqb, ne-eqb}
+use lib.Dec.{eqb}
+use Rattle.table.specs.Kind.{faces}
+use Rattle.table.specs.Table.{dim, face, live, Valid}
+use Rattle.table.specs.Audit.{all, onLength, onValidity}
+use Rattle.table.specs.Calls.{verdict, named, leaves, Ends}
+use Rattle.table.specs.declared.Refusal.{Refusal}
+use Rattle.table.specs.declared.Refusal.the-variants.{NotLive, SameCell, DimensionsDiffer, FacesDiffer}
+use Rattle.table.specs.declared.Verdict.{Verdict}
+use Rattle.table.specs.declared.Verdict.the-variants.{Accepted, Refused}
+use Rattle.table.specs.declared.Named.{Named}
+use Rattle.table.specs.declared.Named.the-variants.{Cell, NoCell}
+use Rattle.audit.proofs.Outcomes.{one-outcome}
+use Rattle.merge.specs.Merge.{IsIdentification, sameFaces, mergeVerdict, merged, mergeAnswer, mergeLeaves}
+use Rattle.merge.proofs.Renaming.{same-or-not, renamed-both-ways}
+use Rattle.merge.proofs.Verdicts.{merge-accepted}
+use Rattle.merge.proofs.Identification.{merged-is-identification}
+use Rattle.merge.proofs.Keeping.{merged-keeps-valid}
+
+and-both-ways : (x y : Bool) → (x && y) ≡ (y && x)
+and-both-ways true true = refl
+and-both-ways true false = refl
+and-both-ways false true = refl
+and-both-ways false false = refl
+
+eqb-both-ways : (m n : ℕ) → eqb m n ≡ eqb n m
+eqb-both-ways m n =
+    ⊎-elim
+    (λ e. eq-eqb m n e ∙ sym (eq-eqb n m (sym e)))
+    (λ d. ne-eqb m n d ∙ sym (ne-eqb n m (λ e. d (sym e))))
+    (same-or-not m n)
+
+same-faces-both-ways : (t : List ℕ) (a b : ℕ) → sameFaces t a b ≡ sameFaces t b a
+unfolding sameFaces
+same-faces-both-ways t a b = ap (all faces) (fun-ext (λ j. eqb-both-ways (face t a j) (face t b j)))
+
+-- the verdict as a function of what is tested of the two cells
+tested : List ℕ → Bool → Bool → Bool → Bool → Verdict
+tested t l e d f =
+    verdict
+    (onLength t
+    ∷ onValidity t
+    ∷ record { refusal = NotLive; applies = not l }
+    ∷ record { refusal = SameCell; applies = e }
+    ∷ record { refusal = DimensionsDiffer; applies = not d }
+    ∷ record { refusal = FacesDiffer; applies = not f }
+    ∷ [])
+
+pub verdict-both-ways : (t : List ℕ) (a b : ℕ) → mergeVerdict t a b ≡ mergeVerdict t b a
+unfolding mergeVerdict tested
+verdict-both-ways t a b =
+    ap (λ l. tested t l (eqb a b) (eqb (dim t a) (dim t b)) (sameFaces t a b)) (and-both-ways (live t a) (live t b))
+    ∙ ap (λ e. tested t (live t b && live t a) e (eqb (dim t a) (dim t b)) (sameFaces t a b)) (eqb-both-ways a b)
+    ∙ ap₂ (tested t (live t b && live t a) (eqb b a)) (eqb-both-ways (dim t a) (dim t b)) (same-faces-both-ways t a b)
+
+pub merged-both-ways : (t : List ℕ) (a b : ℕ) → merged t a b ≡ merged t b a
+unfolding merged
+merged-both-ways t a b = renamed-both-ways a b t
+
+pub merge-answer-same-both-ways : (t : List ℕ) (a b : ℕ) → mergeAnswer t a b ≡ mergeAnswer t b a
+merge-answer-same-both-ways t a b = ap₂ named (verdict-both-ways t a b) (min-comm a b)
+
+pub merge-leaves-same-both-ways : (t : List ℕ) (a b : ℕ) → mergeLeaves t a b ≡ mergeLeaves t b a
+merge-leaves-same-both-ways t a b =
+    ap₂ (λ v u. leaves v u t) (verdict-both-ways t a b) (merged-both-ways t a b)
+
+-- What is left is valid,
+pub merge-keeps-valid : (t : List ℕ) (a b : ℕ) → mergeVerdict t a b ≡ Accepted → Valid (merged t a b)
+merge-keeps-valid t a b e =
+    let m = merge-accepted t a b e in
+    merged-keeps-valid t a b (m .valid) (m .first) (m .second) (m .same-dim) (m .same-faces)
+
+pub mergeLeaves-valid : (t : List ℕ) (a b : ℕ) → Valid t → Valid (mergeLeaves t a b)
+mergeLeaves-valid t a b valid = go (mergeVerdict t a b) refl
+  where
+    go : (v : Verdict) → mergeVerdict t a b ≡ v → Valid (leaves v (merged t a b) t)
+    go Accepted e = merge-keeps-valid t a b e
+    go (Refused r) e = valid
+
+-- and it is the published identification, or the table itself.
+pub merge-accepted-leaves : (t : List ℕ) (a b : ℕ) → mergeVerdict t a b ≡ Accepted → IsIdentification t a b (mergeLeaves t a b)
+merge-accepted-leaves t a b e =
+    let m = merge-accepted t a b e in
+    subst (IsIdentification t a b) (sym (ap (λ v. leaves v (merged t a b) t) e))
+    (merged-is-identification t a b (m .valid) (m .first) (m .second) (m .different))
+
+pub merge-refused-leaves : (t : List ℕ) (a b : ℕ) (r : Refusal) → mergeVerdict t a b ≡ Refused r → mergeLeaves t a b ≡ t
+merge-refused-leaves t a b r e = ap (λ v. leaves v (merged t a b) t) e
+
+-- Two permitted outcomes are equal.
+pub merge-one-outcome :
+    (t : List ℕ) (a b : ℕ) (r r′ : Named) (u u′ : List ℕ) → Ends (mergeAnswer t a b) (mergeLeaves t a b) r u →
+    Ends (mergeAnswer t a b) (mergeLeaves t a b) r′ u′ → (r ≡ r′) × (u ≡ u′)
+merge-one-outcome t a b r r′ u u′ e f = one-outcome e f
+
+-- The ways out of the call.
+pub ends-refused :
+    (t : List ℕ) (a b : ℕ) (r : Refusal) → mergeVerdict t a b ≡ Refused r →
+    Ends (mergeAnswer t a b) (mergeLeaves t a b) (NoCell r) t
+ends-refused t a b r e =
+    record { answer = sym (ap (λ v. named v (min a b)) e); left = sym (merge-refused-leaves t a b r e) }
+
+pub ends-accepted :
+    (t : List ℕ) (a b c : ℕ) (u : List ℕ) → mergeVerdict t a b ≡ Accepted → c ≡ min a b → u ≡ merged t a b →
+    Ends (mergeAnswer t a b) (mergeLeaves t a b) (Cell c) u
+ends-accepted t a b c u e m f =
+    record {
+      answer = ap Cell m ∙ sym (ap (λ v. named v (min a b)) e);
+      left = f ∙ sym (ap (λ v. leaves v (merged t a b) t) e);
+    }

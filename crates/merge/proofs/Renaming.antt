@@ -1,0 +1,197 @@
+-- Laws of a table renamed by a map, over any map: its size, its dimensions, its faces and its live cells; and the map of an
+-- identification. What carries them: a table is written down record by record. Assumes nothing.
+use mathlib.Core.Path.{_≡_, refl, ap, ap₂, sym, _∙_, fun-ext, subst}
+use mathlib.Core.Bool.{Bool, true, false}
+use mathlib.Core.List.{List}
+use mathlib.Core.Logic.{_⊎_, inl, inr, ⊎-elim}
+use Prim.Native.Nat.{ℕ, _*_, _≤_, _<_, min, max}
+use native.Mathlib.Nat.{min-comm, max-comm}
+use native.Mathlib.Omega.{arith}
+use borrow.Author.Tests.{eq-eqb, ne-eqb, eqb-true, eqb-false}
+use lib.ListN.{length}
+use lib.Dec.{eqb}
+use Rattle.table.specs.Kind.{faces, width, freeMark, pick}
+use Rattle.table.specs.Table.{cellsOf, dim, face, Sized, Live}
+use Rattle.table.proofs.Words.{length-tableOf, cellsOf-tableOf, dim-tableOf, face-tableOf, table-by-records}
+use Rattle.merge.specs.Rename.{renamed, identify}
+
+-- two numbers are equal or not
+pub same-or-not : (a b : ℕ) → (a ≡ b) ⊎ (a ≡ b → ⊥)
+same-or-not a b = go (eqb a b) refl
+  where
+    go : (x : Bool) → eqb a b ≡ x → (a ≡ b) ⊎ (a ≡ b → ⊥)
+    go true e = inl (eqb-true a b e)
+    go false e = inr (eqb-false a b e)
+
+-- a statement about d: at c, or beside it
+pub at-or-beside : (P : ℕ → Type 0) (d c : ℕ) → P c → ((d ≡ c → ⊥) → P d) → P d
+at-or-beside P d c here beside = ⊎-elim (λ e. subst P (sym e) here) beside (same-or-not d c)
+
+module _ (ρ : ℕ → ℕ) (t : List ℕ) where
+  abbrev kept-dim : ℕ → ℕ
+  kept-dim c = pick (eqb (ρ c) c) (dim t c) freeMark
+
+  abbrev kept-face : ℕ → ℕ → ℕ
+  kept-face c j = pick (eqb (ρ c) c) (ρ (face t c j)) freeMark
+
+  pub length-renamed : length (renamed ρ t) ≡ cellsOf t * width
+  unfolding renamed
+  length-renamed = length-tableOf (cellsOf t) kept-dim kept-face
+
+  pub cellsOf-renamed : cellsOf (renamed ρ t) ≡ cellsOf t
+  unfolding renamed
+  cellsOf-renamed = cellsOf-tableOf (cellsOf t) kept-dim kept-face
+
+  pub sized-renamed : Sized t → Sized (renamed ρ t)
+  sized-renamed s =
+      let e = cellsOf-renamed in
+      record {
+        whole = length-renamed ∙ ap (λ n. n * width) (sym e);
+        some = omega (arith, e, s .some);
+        room = omega (arith, e, s .room);
+      }
+
+  pub dim-renamed : (c : ℕ) → c < cellsOf t → dim (renamed ρ t) c ≡ kept-dim c
+  unfolding renamed
+  dim-renamed c h = dim-tableOf (cellsOf t) kept-dim kept-face c h
+
+  pub face-renamed : (c j : ℕ) → c < cellsOf t → j < faces → face (renamed ρ t) c j ≡ kept-face c j
+  unfolding renamed
+  face-renamed c j h l = face-tableOf (cellsOf t) kept-dim kept-face c j h l
+
+  -- a cell that is its own image keeps its dimension, and its faces go through the map
+  pub dim-fixed : (c : ℕ) → c < cellsOf t → ρ c ≡ c → dim (renamed ρ t) c ≡ dim t c
+  dim-fixed c h e = dim-renamed c h ∙ simp (eq-eqb (ρ c) c e)
+
+  pub face-fixed : (c j : ℕ) → c < cellsOf t → j < faces → ρ c ≡ c → face (renamed ρ t) c j ≡ ρ (face t c j)
+  face-fixed c j h l e = face-renamed c j h l ∙ simp (eq-eqb (ρ c) c e)
+
+  -- any other record is free
+  pub dim-moved : (c : ℕ) → c < cellsOf t → (ρ c ≡ c → ⊥) → dim (renamed ρ t) c ≡ freeMark
+  dim-moved c h e = dim-renamed c h ∙ simp (ne-eqb (ρ c) c e)
+
+  pub face-moved : (c j : ℕ) → c < cellsOf t → j < faces → (ρ c ≡ c → ⊥) → face (renamed ρ t) c j ≡ freeMark
+  face-moved c j h l e = face-renamed c j h l ∙ simp (ne-eqb (ρ c) c e)
+
+  -- so the live cells are those that were live and are their own image
+  pub live-after : (c : ℕ) → Live t c → ρ c ≡ c → Live (renamed ρ t) c
+  live-after c v e =
+      record { inside = omega (arith, cellsOf-renamed, v .inside); low = omega (arith, dim-fixed c (v .inside) e, v .low) }
+
+  pub fixed-where-live : (c : ℕ) → Live (renamed ρ t) c → ρ c ≡ c
+  fixed-where-live c v =
+      let h : c < cellsOf t = omega (arith, cellsOf-renamed, v .inside) in
+      ⊎-elim (λ e. e) (λ n. absurd (omega (arith, dim-moved c h n, v .low))) (same-or-not (ρ c) c)
+
+  pub live-before : (c : ℕ) → Live (renamed ρ t) c → Live t c
+  live-before c v =
+      let h : c < cellsOf t = omega (arith, cellsOf-renamed, v .inside) in
+      record { inside = h; low = omega (arith, dim-fixed c h (fixed-where-live c v), v .low) }
+
+-- maps that agree at every number rename alike
+pub renamed-alike : (ρ σ : ℕ → ℕ) (t : List ℕ) → ((c : ℕ) → ρ c ≡ σ c) → renamed ρ t ≡ renamed σ t
+renamed-alike ρ σ t e = ap (λ τ. renamed τ t) (fun-ext e)
+
+-- a map that leaves every number alone leaves the table
+pub renamed-by-identity : (ρ : ℕ → ℕ) (t : List ℕ) → Sized t → ((c : ℕ) → ρ c ≡ c) → renamed ρ t ≡ t
+renamed-by-identity ρ t s e =
+    table-by-records (renamed ρ t) t (cellsOf t) (length-renamed ρ t) (s .whole)
+    (λ c h. dim-fixed ρ t c h (e c))
+    (λ c j h l. face-fixed ρ t c j h l (e c) ∙ e (face t c j))
+
+-- Two maps one after the other are their composition, where a number that both together leave in place was left by the first, and
+-- the second leaves the free mark.
+module _ (ρ σ : ℕ → ℕ) (t : List ℕ) (mark : σ freeMark ≡ freeMark) (stays : (c : ℕ) → σ (ρ c) ≡ c → ρ c ≡ c) where
+  abbrev both : ℕ → ℕ
+  both c = σ (ρ c)
+
+  both-fixed : (c : ℕ) → ρ c ≡ c → σ c ≡ c → both c ≡ c
+  both-fixed c e f = ap σ e ∙ f
+
+  both-moved : (c : ℕ) → ρ c ≡ c → (σ c ≡ c → ⊥) → both c ≡ c → ⊥
+  both-moved c e n f = n (sym (ap σ e) ∙ f)
+
+  inside-first : (c : ℕ) → c < cellsOf t → c < cellsOf (renamed ρ t)
+  inside-first c h = omega (arith, cellsOf-renamed ρ t)
+
+  dim-twice : (c : ℕ) → c < cellsOf t → dim (renamed σ (renamed ρ t)) c ≡ dim (renamed both t) c
+  dim-twice c h =
+      let k = inside-first c h in
+      ⊎-elim
+      (λ e. ⊎-elim
+      (λ f. dim-fixed σ (renamed ρ t) c k f ∙ dim-fixed ρ t c h e ∙ sym (dim-fixed both t c h (both-fixed c e f)))
+      (λ n. dim-moved σ (renamed ρ t) c k n ∙ sym (dim-moved both t c h (both-moved c e n)))
+      (same-or-not (σ c) c))
+      (λ n. ⊎-elim
+      (λ f. dim-fixed σ (renamed ρ t) c k f ∙ dim-moved ρ t c h n ∙ sym (dim-moved both t c h (λ e. n (stays c e))))
+      (λ m. dim-moved σ (renamed ρ t) c k m ∙ sym (dim-moved both t c h (λ e. n (stays c e))))
+      (same-or-not (σ c) c))
+      (same-or-not (ρ c) c)
+
+  face-twice : (c j : ℕ) → c < cellsOf t → j < faces → face (renamed σ (renamed ρ t)) c j ≡ face (renamed both t) c j
+  face-twice c j h l =
+      let k = inside-first c h in
+      ⊎-elim
+      (λ e. ⊎-elim
+      (λ f. face-fixed σ (renamed ρ t) c j k l f ∙ ap σ (face-fixed ρ t c j h l e) ∙ sym (face-fixed both t c j h l (both-fixed c e f)))
+      (λ n. face-moved σ (renamed ρ t) c j k l n ∙ sym (face-moved both t c j h l (both-moved c e n)))
+      (same-or-not (σ c) c))
+      (λ n. ⊎-elim
+      (λ f. face-fixed σ (renamed ρ t) c j k l f ∙ ap σ (face-moved ρ t c j h l n) ∙ mark ∙ sym (face-moved both t c j h l (λ e. n (stays c e))))
+      (λ m. face-moved σ (renamed ρ t) c j k l m ∙ sym (face-moved both t c j h l (λ e. n (stays c e))))
+      (same-or-not (σ c) c))
+      (same-or-not (ρ c) c)
+
+  pub renamed-twice : renamed σ (renamed ρ t) ≡ renamed (λ c. σ (ρ c)) t
+  renamed-twice =
+      table-by-records (renamed σ (renamed ρ t)) (renamed both t) (cellsOf t)
+      (length-renamed σ (renamed ρ t) ∙ ap (λ n. n * width) (cellsOf-renamed ρ t))
+      (length-renamed both t)
+      dim-twice face-twice
+
+-- The map of an identification: the larger number goes to the smaller,
+pub identify-larger : (a b : ℕ) → identify a b (max a b) ≡ min a b
+unfolding identify
+identify-larger a b = simp (eq-eqb (max a b) (max a b) refl)
+
+-- every other number stays,
+pub identify-other : (a b c : ℕ) → (c ≡ max a b → ⊥) → identify a b c ≡ c
+unfolding identify
+identify-other a b c n = simp (ne-eqb c (max a b) n)
+
+-- and so nothing moves where both are one number,
+pub identify-itself : (a c : ℕ) → identify a a c ≡ c
+identify-itself a c =
+    ⊎-elim (λ e. ap (identify a a) e ∙ identify-larger a a ∙ omega arith) (identify-other a a c) (same-or-not c (max a a))
+
+-- a number that is neither stays,
+pub identify-keeps : (a b c : ℕ) → a < c → b < c → identify a b c ≡ c
+identify-keeps a b c h l = identify-other a b c (λ e. omega arith)
+
+-- twice is once,
+pub identify-once : (a b c : ℕ) → identify a b (identify a b c) ≡ identify a b c
+identify-once a b c =
+    ⊎-elim
+    (λ e. ap (identify a b) (ap (identify a b) e ∙ identify-larger a b) ∙ smaller ∙ sym (ap (identify a b) e ∙ identify-larger a b))
+    (λ n. ap (identify a b) (identify-other a b c n))
+    (same-or-not c (max a b))
+  where
+    smaller : identify a b (min a b) ≡ min a b
+    smaller =
+        ⊎-elim (λ e. ap (identify a b) e ∙ identify-larger a b) (identify-other a b (min a b)) (same-or-not (min a b) (max a b))
+
+-- the order of asking is nothing to it,
+pub identify-both-ways : (a b c : ℕ) → identify a b c ≡ identify b a c
+unfolding identify
+identify-both-ways a b c = ap₂ (λ x y. pick (eqb c x) y c) (max-comm a b) (min-comm a b)
+
+pub renamed-both-ways : (a b : ℕ) (t : List ℕ) → renamed (identify a b) t ≡ renamed (identify b a) t
+renamed-both-ways a b t = renamed-alike (identify a b) (identify b a) t (identify-both-ways a b)
+
+-- and it never goes up.
+pub identify-down : (a b c : ℕ) → identify a b c ≤ c
+identify-down a b c =
+    ⊎-elim
+    (λ e. omega (arith, ap (identify a b) e ∙ identify-larger a b))
+    (λ n. omega (arith, identify-other a b c n))
+    (same-or-not c (max a b))

@@ -1,0 +1,115 @@
+-- `merge::pair_verdict` meets its contract: at each way out the tests that led there decide the grounds, in their order.
+-- Assumes nothing.
+use mathlib.Core.Path.{_≡_, sym, ap₂, _∙_}
+use mathlib.Core.Bool.{true}
+use borrow.Author.Needs.{needs}
+use borrow.Author.Tests.{not-true, not-false}
+use Rattle.table.specs.Table.{dim, live}
+use Rattle.merge.specs.Merge.{sameFaces}
+use Rattle.merge.specs.Writing.{sameWords}
+use Rattle.merge.proofs.Pairs.{live-inside, same-by-value, first-not-live, second-not-live, one-cell-twice, dimensions-differ, faces-differ, nothing-against}
+use Rattle.merge.proofs.pair_verdict.Statement.{statement}
+use Rattle.merge.proofs.pair_verdict.Tie as tie
+
+live-requires : tie.Need-live-requires
+live-requires c κs = search needs
+
+returns : tie.Need-returns
+returns c = first-not-live _ _ _ (sym (c .before .live .ensures) ∙ not-true (c .before .live .result) (c .if1 .taken))
+
+-- past the first test the first cell is live,
+live-first : (c : tie.Else1) → live (c .before .before .before .args .t .now) (c .before .before .before .args .a) ≡ true
+live-first c = sym (c .before .live .ensures) ∙ not-false (c .before .live .result) (c .if1 .left)
+
+live-requires-2 : tie.Need-live-requires-2
+live-requires-2 c κs = search needs
+
+returns-2 : tie.Need-returns-2
+returns-2 c =
+    second-not-live _ _ _ (live-first (c .before .before))
+    (sym (c .before .live2 .ensures) ∙ not-true (c .before .live2 .result) (c .if2 .taken))
+
+-- past the second the other,
+live-second :
+    (c : tie.Else2) →
+    live (c .before .before .before .before .before .args .t .now) (c .before .before .before .before .before .args .b) ≡ true
+live-second c = sym (c .before .live2 .ensures) ∙ not-false (c .before .live2 .result) (c .if2 .left)
+
+returns-3 : tie.Need-returns-3
+returns-3 c = one-cell-twice _ _ _ (live-first (c .before .before .before)) (live-second (c .before)) (c .if3 .taken)
+
+dim-requires : tie.Need-dim-requires
+dim-requires c κs = live-inside _ _ (live-first (c .before .before .before))
+
+dim-requires-2 : tie.Need-dim-requires-2
+dim-requires-2 c κs = live-inside _ _ (live-second (c .before .before))
+
+returns-4 : tie.Need-returns-4
+returns-4 c =
+    dimensions-differ _ _ _
+    (live-first (c .before .before .before .before .before .before))
+    (live-second (c .before .before .before .before))
+    (c .before .before .before .if3 .left)
+    (λ e. c .if4 .taken (c .before .before .dim .ensures ∙ e ∙ sym (c .before .dim2 .ensures)))
+
+-- and past the fourth they have one dimension.
+abbrev asked : tie.Else4 → tie.Start
+asked c = c .before .before .before .before .before .before .before .before .before
+
+same-dim : (c : tie.Else4) → dim (asked c .args .t .now) (asked c .args .a) ≡ dim (asked c .args .t .now) (asked c .args .b)
+same-dim c = sym (c .before .before .dim .ensures) ∙ c .if4 .left ∙ c .before .dim2 .ensures
+
+faces-requires : tie.Need-faces-requires
+faces-requires c κs = live-inside _ _ (live-first (c .before .before .before .before .before .before))
+
+faces-requires-2 : tie.Need-faces-requires-2
+faces-requires-2 c κs = live-inside _ _ (live-second (c .before .before .before .before .before))
+
+same-faces-requires : tie.Need-same-faces-requires
+same-faces-requires c κs = search needs
+
+-- The comparison by value says what the table's faces say.
+compared :
+    (c : tie.After-same-faces) →
+    let s = asked (c .before .before .before) in
+    c .same-faces .result ≡ sameFaces (s .args .t .now) (s .args .a) (s .args .b)
+compared c =
+    c .same-faces .ensures
+    ∙ ap₂ sameWords (c .before .before .faces .ensures) (c .before .faces2 .ensures)
+    ∙ same-by-value _ _ _
+
+returns-5 : tie.Need-returns-5
+returns-5 c =
+    let e = c .before .before .before .before in
+    faces-differ _ _ _ (live-first (e .before .before .before .before .before .before))
+    (live-second (e .before .before .before .before))
+    (e .before .before .before .if3 .left)
+    (same-dim e)
+    (sym (compared (c .before)) ∙ not-true (c .before .same-faces .result) (c .if5 .taken))
+
+returns-6 : tie.Need-returns-6
+returns-6 c =
+    let e = c .before .before .before .before in
+    nothing-against _ _ _ (live-first (e .before .before .before .before .before .before))
+    (live-second (e .before .before .before .before))
+    (e .before .before .before .if3 .left)
+    (same-dim e)
+    (sym (compared (c .before)) ∙ not-false (c .before .same-faces .result) (c .if5 .left))
+
+pub pair-verdict-spec : {M : Type 1} → statement M
+pair-verdict-spec =
+    tie.close
+    (tie.spec
+    live-requires
+    returns
+    live-requires-2
+    returns-2
+    returns-3
+    dim-requires
+    dim-requires-2
+    returns-4
+    faces-requires
+    faces-requires-2
+    same-faces-requires
+    returns-5
+    returns-6)

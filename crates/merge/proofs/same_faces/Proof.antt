@@ -1,0 +1,65 @@
+-- `merge::same_faces` meets its contract. The invariant: every place below j has the same word in both. The measure: the places
+-- left. Assumes nothing.
+use mathlib.Core.Path.{_≡_}
+use Prim.Native.Nat.{ℕ, _-_, _≤_, _<_}
+use borrow.Author.Count.{below-none, below-more}
+use borrow.Author.Needs.{needs}
+use native.Mathlib.Omega.{arith}
+use lib.ListN.{getD}
+use Rattle.table.specs.Kind.{faces}
+use Rattle.merge.proofs.Pairs.{words-same, words-differ}
+use Rattle.merge.proofs.same_faces.Statement.{statement}
+use Rattle.merge.proofs.same_faces.Tie as tie
+
+abbrev Inv-loop : tie.InvT-loop
+Inv-loop x y j₀ j = (j ≤ faces) × ((k : ℕ) → k < j → getD x k 0 ≡ getD y k 0)
+
+abbrev μ-loop : tie.MeasureT-loop
+μ-loop x y j₀ j = faces - j
+
+loop-holds : tie.Need-loop-holds Inv-loop μ-loop
+loop-holds c = (search needs, below-none _)
+
+mul-if1 : tie.Need-mul-if1 Inv-loop μ-loop
+mul-if1 c = search needs
+
+array-read-if1 : tie.Need-array-read-if1 Inv-loop μ-loop
+array-read-if1 c = search needs
+
+mul-if1-2 : tie.Need-mul-if1-2 Inv-loop μ-loop
+mul-if1-2 c = search needs
+
+array-read-if1-2 : tie.Need-array-read-if1-2 Inv-loop μ-loop
+array-read-if1-2 c = search needs
+
+returns : tie.Need-returns Inv-loop μ-loop
+returns c = words-differ _ _ (c .before .before .loop .j) (search needs) (c .if1 .taken)
+
+add-j : tie.Need-add-j Inv-loop μ-loop
+add-j c = search needs
+
+loop-less : tie.Need-loop-less Inv-loop μ-loop
+loop-less c = search needs
+
+loop-again : tie.Need-loop-again Inv-loop μ-loop
+loop-again c = (search needs, below-more _ _ (c .before .before .loop .inv .1) (c .if1 .left))
+
+returns-2 : tie.Need-returns-2 Inv-loop μ-loop
+returns-2 c = words-same _ _ (λ j h. c .before .loop .inv .1 j (omega arith))
+
+pub same-faces-spec : {M : Type 1} → statement M
+same-faces-spec =
+    tie.close
+    (tie.spec
+    Inv-loop
+    μ-loop
+    loop-holds
+    mul-if1
+    array-read-if1
+    mul-if1-2
+    array-read-if1-2
+    returns
+    add-j
+    loop-less
+    loop-again
+    returns-2)

@@ -1,0 +1,19 @@
+-- Renaming cells by a map on cell numbers: a cell that is its own image keeps its record, with each face sent through the map;
+-- any other record becomes free. Identification of two cells is such a map.
+-- A reader must believe these definitions; nothing here is proved.
+use mathlib.Core.List.{List}
+use Prim.Native.Nat.{ℕ, min, max}
+use lib.Dec.{eqb}
+use Rattle.table.specs.Kind.{freeMark, pick}
+use Rattle.table.specs.Table.{cellsOf, dim, face}
+use Rattle.table.specs.Words.{tableOf}
+
+unfoldable pub renamed : (ℕ → ℕ) → List ℕ → List ℕ
+renamed ρ t =
+    tableOf (cellsOf t)
+    (λ c. pick (eqb (ρ c) c) (dim t c) freeMark)
+    (λ c j. pick (eqb (ρ c) c) (ρ (face t c j)) freeMark)
+
+-- the map that sends the larger of two numbers to the smaller, and every other number to itself
+unfoldable pub identify : ℕ → ℕ → ℕ → ℕ
+identify a b c = pick (eqb c (max a b)) (min a b) c

@@ -1,0 +1,66 @@
+// Rows of evidence: the faces of a cell added into a set, and a row's boundary mod 2.
+ghost use mathlib.Core.Path.{_≡_};
+ghost use Prim.Native.Nat.{_≤_, _<_};
+ghost use lib.ListN.{length};
+ghost use Rattle.homology.specs.Holes.{boundary};
+ghost use Rattle.table.specs.Table.{cellsOf, Valid, Live};
+ghost use Rattle.complex.specs.Cells.{cells};
+ghost use Rattle.rows.specs.Rows.{boundaryWords, evidenceWords, rows, SetIs, FacesAdded, RowLive};
+ghost use Rattle.rows.specs.Word.{WordLive, WordAdded};
+use table::Table;
+
+// Adds the faces of a live cell into a set, each face place once, so that a face named twice is in as before.
+pub fn add_faces(t: &[u16], c: usize, into: &mut [u64])
+    requires { ⌜ Valid (now t) ⌝ }
+    requires { ⌜ Live (now t) c ⌝ }
+    requires { ⌜ length (now into) ≡ boundaryWords ⌝ }
+    ensures { λ _. ⌜ FacesAdded (now (t .entry)) c (now (into .entry)) (now (into .exit)) ⌝ }
+{
+    let used = Table::used(Table::dim(t, c));
+    let faces = Table::faces(t, c);
+    let mut j = 0;
+    while j < used {
+        bitset::toggle(into, faces[j] as usize);
+        j += 1;
+    }
+}
+
+// Adds the faces of the cells that word w of a row stands for, from the lowest bit up; only bits that are set cost a turn.
+fn add_word(t: &[u16], w: usize, word: u64, into: &mut [u64])
+    requires { ⌜ Valid (now t) ⌝ }
+    requires { ⌜ WordLive (now t) w word ⌝ }
+    requires { ⌜ length (now into) ≡ boundaryWords ⌝ }
+    ensures { λ _. ⌜ WordAdded (now (t .entry)) w word (now (into .entry)) (now (into .exit)) ⌝ }
+{
+    let mut v = word;
+    while v != 0 {
+        let k = bitset::lowest(v);
+        v ^= 1 << k;
+        add_faces(t, 64 * w + k, into);
+    }
+}
+
+// The boundary mod 2 of a row whose cells are live: every pair of a cell in the row and a face place counted.
+pub fn row_boundary(t: &[u16], evidence: &[u64], row: usize) -> [u64; 8]
+    requires { ⌜ Valid (now t) ⌝ }
+    requires { ⌜ length (now evidence) ≡ evidenceWords (now t) ⌝ }
+    requires { ⌜ row < cellsOf (now t) ⌝ }
+    requires { ⌜ RowLive (now t) (now evidence) row ⌝ }
+    ensures { λ r. ⌜ SetIs r (boundary (cells (now (t .entry))) (rows (now (t .entry)) (now (evidence .entry)) row)) ⌝ }
+{
+    let width = bitset::words_for(Table::of(t).cells);
+    let at = row * width;
+    let mut words = [0; 8];
+    let mut k = 0;
+    while k < width {
+        words[k] = evidence[at + k];
+        k += 1;
+    }
+    let mut b = [0; 8];
+    let mut w = 0;
+    while w < width {
+        add_word(t, w, words[w], &mut b);
+        w += 1;
+    }
+    b
+}

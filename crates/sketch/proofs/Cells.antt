@@ -1,0 +1,59 @@
+-- The written file, part by part: the body of dimension p is the records of its cells, first, second and so on.
+-- What carries it: the pieces that stand only at p-cells are the pieces of the p-cells in their order. Assumes nothing.
+use mathlib.Core.Path.{_≡_, ap, _∙_}
+use mathlib.Core.Bool.{true}
+use mathlib.Core.List.{List, _++_}
+use Prim.Native.Nat.{ℕ, _<_}
+use borrow.Author.Tests.{eq-eqb, eqb-true}
+use Rattle.table.specs.Table.{cellsOf, dim, face, Live, live}
+use Rattle.counting.specs.Counting.{nth}
+use Rattle.counting.proofs.Counting.{nth-has}
+use Rattle.audit.proofs.Scans.{and-left, and-right, and-both}
+use Rattle.audit.proofs.Sizes.{live-true, live-says}
+use Rattle.sketch.specs.Form.{dimensions}
+use Rattle.sketch.specs.Written.{isCell, countOf, cellBytes, bodyOf, contentsOf, fileOf}
+use Rattle.sketch.proofs.Pieces.{pieces-cong}
+use Rattle.sketch.proofs.Picked.{pieces-picked}
+use Rattle.sketch.proofs.Parts.{recordBytes, bodyBytes, bodiesBytes, contentsBytes, layout}
+
+module _ (t : List ℕ) where
+  -- a live p-cell is a live cell of dimension p
+  pub cell-live : (p c : ℕ) → isCell t p c ≡ true → Live t c
+  unfolding isCell
+  cell-live p c e = live-true t c (and-left (live t c) _ e)
+
+  pub cell-dim : (p c : ℕ) → isCell t p c ≡ true → dim t c ≡ p
+  unfolding isCell
+  cell-dim p c e = eqb-true (dim t c) p (and-right (live t c) _ e)
+
+  pub cell-says : (p c : ℕ) → Live t c → dim t c ≡ p → isCell t p c ≡ true
+  unfolding isCell
+  cell-says p c v e = and-both (live t c) _ (live-says t c v) (eq-eqb (dim t c) p e)
+
+  -- the i-th cell of dimension p, and its face j
+  abbrev pub cellAt : ℕ → ℕ → ℕ
+  cellAt p i = nth (isCell t p) (cellsOf t) i
+
+  abbrev pub faceAt : ℕ → ℕ → ℕ → ℕ
+  faceAt p i j = face t (cellAt p i) j
+
+  pub cellAt-is : (p i : ℕ) → i < countOf t p → isCell t p (cellAt p i) ≡ true
+  unfolding countOf
+  cellAt-is p i h = nth-has (isCell t p) (cellsOf t) i h
+
+  pub record-is : (p c : ℕ) → dim t c ≡ p → cellBytes t c ≡ recordBytes p c (face t c)
+  unfolding cellBytes
+  record-is p c e = ap (λ q. recordBytes q c (face t c)) e
+
+  pub body-is : (p : ℕ) → bodyOf t p ≡ bodyBytes p (countOf t p) (cellAt p) (faceAt p)
+  unfolding bodyOf countOf
+  body-is p =
+      pieces-picked (isCell t p) (cellBytes t) (cellsOf t)
+      ∙ pieces-cong (λ i. cellBytes t (cellAt p i)) (λ i. recordBytes p (cellAt p i) (faceAt p i)) (countOf t p)
+      (λ i l. record-is p (cellAt p i) (cell-dim p (cellAt p i) (cellAt-is p i l)))
+
+  pub file-is : fileOf t ≡ layout (cellsOf t) (countOf t) cellAt faceAt
+  unfolding fileOf contentsOf
+  file-is =
+      ap (λ x. contentsBytes (cellsOf t) (countOf t) ++ x)
+      (pieces-cong (bodyOf t) (bodiesBytes (countOf t) cellAt faceAt) dimensions (λ p l. body-is p))

@@ -1,0 +1,120 @@
+-- The table that a file describes: its size, its dimensions and its faces.
+-- What carries it: the laws of a table that is written down record by record. Assumes nothing.
+use mathlib.Core.Path.{_≡_, ap, sym, _∙_}
+use mathlib.Core.Bool.{Bool, true, false}
+use mathlib.Core.List.{List}
+use mathlib.Core.Logic.{⊎-elim}
+use Prim.Native.Nat.{ℕ, _-_, _*_, _/_, _%_, _≤_, _<_}
+use native.Mathlib.Omega.{arith}
+use borrow.Author.Tests.{lt-ltb, le-ltb}
+use lib.ListN.{length, getD, List·getD-eq-default}
+use lib.Dec.{eqb, ltb}
+use Rattle.table.specs.Kind.{width, faces, freeMark, pick, used}
+use Rattle.table.specs.Table.{cellsOf, dim, face, Sized}
+use Rattle.table.specs.Words.{wordOf, tableOf}
+use Rattle.table.proofs.Words.{length-tableOf, cellsOf-tableOf, dim-tableOf, face-tableOf, getD-listed}
+use Rattle.counting.specs.Counting.{howMany, nth, someHas}
+use Rattle.counting.proofs.Counting.{below-or-not, nth-below, nth-none}
+use Rattle.audit.proofs.Places.{used-fits}
+use Rattle.sketch.specs.Form.{dimensions}
+use Rattle.sketch.specs.Read.{countIn, numberIn, faceIn, inBody, dimIn, placeIn, described}
+use Rattle.sketch.proofs.Bytes.{two-at-small}
+use Rattle.sketch.proofs.Fits.{Numbered}
+use Rattle.sketch.proofs.Bodies.{dimIn-number, placeIn-number}
+
+module _ (n : ℕ) (f : List ℕ) where
+  -- face j of cell c
+  abbrev pub faceOf : ℕ → ℕ → ℕ
+  faceOf c j = pick (ltb j (used (dimIn f c))) (faceIn f (dimIn f c) (placeIn f (dimIn f c) c) j) freeMark
+
+  pub described-length : length (described n f) ≡ n * width
+  unfolding described
+  described-length = length-tableOf n (dimIn f) faceOf
+
+  pub described-cells : cellsOf (described n f) ≡ n
+  unfolding described
+  described-cells = cellsOf-tableOf n (dimIn f) faceOf
+
+  pub described-dim : (c : ℕ) → c < n → dim (described n f) c ≡ dimIn f c
+  unfolding described
+  described-dim c h = dim-tableOf n (dimIn f) faceOf c h
+
+  pub described-face : (c j : ℕ) → c < n → j < faces → face (described n f) c j ≡ faceOf c j
+  unfolding described
+  described-face c j h l = face-tableOf n (dimIn f) faceOf c j h l
+
+  -- a used face and an unused one, of a cell of which the dimension is known
+  pub described-used : (c p j : ℕ) → c < n → dimIn f c ≡ p → j < used p → face (described n f) c j ≡ faceIn f p (placeIn f p c) j
+  described-used c p j h e l =
+      described-face c j h (omega (arith, used-fits p))
+      ∙ ap (λ q. pick (ltb j (used q)) (faceIn f q (placeIn f q c) j) freeMark) e
+      ∙ ap (λ b. pick b (faceIn f p (placeIn f p c) j) freeMark) (lt-ltb j (used p) l)
+
+  pub described-unused : (c p j : ℕ) → c < n → dimIn f c ≡ p → used p ≤ j → j < faces → face (described n f) c j ≡ freeMark
+  described-unused c p j h e l m =
+      described-face c j h m
+      ∙ ap (λ q. pick (ltb j (used q)) (faceIn f q (placeIn f q c) j) freeMark) e
+      ∙ ap (λ b. pick b (faceIn f p (placeIn f p c) j) freeMark) (le-ltb j (used p) l)
+
+  -- the i-th cell of body p has the faces that stand in its record
+  pub described-record : Numbered n f → (p i j : ℕ) → p < dimensions → i < countIn f p → j < used p → face (described n f) (numberIn f p i) j ≡ faceIn f p i j
+  described-record w p i j h l m =
+      described-used (numberIn f p i) p j (w .below p i h l) (dimIn-number f n w p i h l) m
+      ∙ ap (λ k. faceIn f p k j) (placeIn-number f n w p i h l)
+
+  pub described-sized : 1 ≤ n → n ≤ 512 → Sized (described n f)
+  described-sized h l =
+      let e : cellsOf (described n f) ≡ n = described-cells in
+      record {
+        whole = described-length ∙ ap (λ m. m * width) (sym e);
+        some = omega arith;
+        room = omega arith;
+      }
+
+-- every word of a described table has room in 16 bits
+module _ (n : ℕ) (f : List ℕ) (bytes : (k : ℕ) → getD f k 0 < 256) where
+  face-small : (p i j : ℕ) → faceIn f p i j < 65536
+  unfolding faceIn
+  face-small p i j = two-at-small f _ (bytes _) (bytes _)
+
+  dim-small : (c : ℕ) → dimIn f c < 65536
+  unfolding dimIn
+  dim-small c = go (someHas (λ p. inBody f p c) dimensions)
+    where
+      least : nth (λ p. inBody f p c) dimensions 0 ≤ dimensions
+      least =
+          ⊎-elim (λ l. omega (arith, nth-below (λ p. inBody f p c) dimensions 0 l)) (λ l. omega (arith, nth-none (λ p. inBody f p c) dimensions 0 l))
+          (below-or-not 0 (howMany (λ p. inBody f p c) dimensions))
+
+      go : (b : Bool) → pick b (nth (λ p. inBody f p c) dimensions 0) freeMark < 65536
+      go true = omega (arith, least)
+      go false = omega arith
+
+  pick-small : (b : Bool) (x y : ℕ) → x < 65536 → y < 65536 → pick b x y < 65536
+  pick-small true x y h l = h
+  pick-small false x y h l = l
+
+  word-small : (d : ℕ → ℕ) (g : ℕ → ℕ → ℕ) → ((c : ℕ) → d c < 65536) → ((c j : ℕ) → g c j < 65536) → (i : ℕ) → wordOf d g i < 65536
+  unfolding wordOf
+  word-small d g h l i =
+      pick-small (eqb (i % width) 0) (d (i / width)) (g (i / width) (i % width - 1)) (h (i / width)) (l (i / width) (i % width - 1))
+
+  face-of-small : (c j : ℕ) → faceOf n f c j < 65536
+  face-of-small c j =
+      pick-small (ltb j (used (dimIn f c))) (faceIn f (dimIn f c) (placeIn f (dimIn f c) c) j) freeMark
+      (face-small (dimIn f c) (placeIn f (dimIn f c) c) j)
+      (omega arith)
+
+  pub described-words-small : (i : ℕ) → getD (described n f) i 0 < 65536
+  unfolding described tableOf
+  described-words-small i = ⊎-elim inside past (below-or-not i (n * width))
+    where
+      inside : i < n * width → getD (described n f) i 0 < 65536
+      inside l =
+          rw (getD-listed (n * width) (wordOf (dimIn f) (faceOf n f)) i l)
+          (word-small (dimIn f) (faceOf n f) dim-small face-of-small i)
+
+      past : n * width ≤ i → getD (described n f) i 0 < 65536
+      past l =
+          let long : length (described n f) ≤ i = omega (arith, described-length n f) in
+          rw (List·getD-eq-default (described n f) 0 long) (omega arith)

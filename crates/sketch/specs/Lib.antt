@@ -1,0 +1,3 @@
+pub mod Form
+pub mod Written
+pub mod Read

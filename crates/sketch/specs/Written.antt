@@ -1,0 +1,52 @@
+-- The file that a table is written as, and what the writer answers and leaves.
+-- A reader must believe these definitions; nothing here is proved.
+use mathlib.Core.Bool.{Bool, _&&_}
+use mathlib.Core.List.{List, [], _∷_, _++_}
+use Prim.Native.Nat.{ℕ, _+_}
+use lib.ListN.{length, drop}
+use lib.Dec.{eqb, ltb}
+use Rattle.counting.specs.Counting.{howMany}
+use Rattle.table.specs.Kind.{pick, used}
+use Rattle.table.specs.Table.{cellsOf, dim, face, live}
+use Rattle.table.specs.Audit.{onLength, onValidity}
+use Rattle.table.specs.Calls.{Ground, verdict}
+use Rattle.table.specs.declared.Refusal.the-variants.{NoRoom}
+use Rattle.table.specs.declared.Verdict.{Verdict}
+use Rattle.sketch.specs.Form.{two, four, pieces, dimensions, bodyStart}
+
+-- whether c is a live p-cell
+unfoldable pub isCell : List ℕ → ℕ → ℕ → Bool
+isCell t p c = live t c && eqb (dim t c) p
+
+-- the number of live p-cells
+unfoldable pub countOf : List ℕ → ℕ → ℕ
+countOf t p = howMany (isCell t p) (cellsOf t)
+
+-- the record of cell c: its number, then its faces
+unfoldable pub cellBytes : List ℕ → ℕ → List ℕ
+cellBytes t c = two c ++ pieces (λ j. two (face t c j)) (used (dim t c))
+
+-- the body of dimension p: its cells in rising number
+unfoldable pub bodyOf : List ℕ → ℕ → List ℕ
+bodyOf t p = pieces (λ c. pick (isCell t p c) (cellBytes t c) []) (cellsOf t)
+
+unfoldable pub contentsOf : List ℕ → List ℕ
+contentsOf t = two (cellsOf t) ++ pieces (λ p. two (countOf t p) ++ four (bodyStart (countOf t) p)) dimensions
+
+-- the whole file
+unfoldable pub fileOf : List ℕ → List ℕ
+fileOf t = contentsOf t ++ pieces (bodyOf t) dimensions
+
+abbrev pub writeGrounds : List ℕ → List ℕ → List Ground
+writeGrounds t target =
+    onLength t
+    ∷ onValidity t
+    ∷ record { refusal = NoRoom; applies = ltb (length target) (length (fileOf t)) }
+    ∷ []
+
+unfoldable pub writeVerdict : List ℕ → List ℕ → Verdict
+writeVerdict t target = verdict (writeGrounds t target)
+
+-- an accepted write: the file, and no byte after it touched
+abbrev pub written : List ℕ → List ℕ → List ℕ
+written t target = fileOf t ++ drop (length (fileOf t)) target

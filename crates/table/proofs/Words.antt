@@ -1,0 +1,73 @@
+-- Laws of a table that is written down record by record: its size, its dimensions and its faces are those it was given, and a
+-- table is determined by them. Assumes nothing.
+use mathlib.Core.Path.{_≡_, refl, ap, ap₂, sym, _∙_}
+use mathlib.Core.Bool.{Bool, true, false}
+use mathlib.Core.List.{List, [], _∷_}
+use Prim.Native.Nat.{ℕ, zero, suc, _+_, _-_, _*_, _/_, _%_, _≤_, _<_}
+use native.Mathlib.Nat.{le-of-suc-le-suc, not-suc-le-zero}
+use native.Mathlib.Omega.{arith}
+use borrow.Author.Tests.{eq-eqb, ne-eqb}
+use lib.ListN.{length, getD}
+use lib.Seq.{ext-getD}
+use lib.Dec.{eqb}
+use Rattle.table.specs.Kind.{width, faces, pick}
+use Rattle.table.specs.Table.{cellsOf, dim, face}
+use Rattle.table.specs.Words.{listed, wordOf, tableOf}
+
+pub length-listed : (n : ℕ) (f : ℕ → ℕ) → length (listed n f) ≡ n
+unfolding listed
+length-listed zero f = refl
+length-listed (suc n) f = ap suc (length-listed n (λ k. f (suc k)))
+
+pub getD-listed : (n : ℕ) (f : ℕ → ℕ) (i : ℕ) → i < n → getD (listed n f) i 0 ≡ f i
+unfolding listed
+getD-listed zero f i h = absurd (not-suc-le-zero h)
+getD-listed (suc n) f zero h = refl
+getD-listed (suc n) f (suc i) h = getD-listed n (λ k. f (suc k)) i (le-of-suc-le-suc h)
+
+pub length-tableOf : (n : ℕ) (d : ℕ → ℕ) (f : ℕ → ℕ → ℕ) → length (tableOf n d f) ≡ n * width
+unfolding tableOf
+length-tableOf n d f = length-listed (n * width) (wordOf d f)
+
+pub cellsOf-tableOf : (n : ℕ) (d : ℕ → ℕ) (f : ℕ → ℕ → ℕ) → cellsOf (tableOf n d f) ≡ n
+cellsOf-tableOf n d f = omega (arith, length-tableOf n d f)
+
+module _ (d : ℕ → ℕ) (f : ℕ → ℕ → ℕ) where
+  first-word : (c : ℕ) → wordOf d f (c * width) ≡ d c
+  unfolding wordOf
+  first-word c =
+      let r : c * width % width ≡ 0 = omega arith in
+      let q : c * width / width ≡ c = omega arith in
+      rw (eq-eqb _ _ r) (ap d q)
+
+  later-word : (c j : ℕ) → j < faces → wordOf d f (c * width + (1 + j)) ≡ f c j
+  unfolding wordOf
+  later-word c j h =
+      let r : ((c * width + (1 + j)) % width ≡ 0) → ⊥ = λ e. omega arith in
+      let q : (c * width + (1 + j)) / width ≡ c = omega arith in
+      let k : (c * width + (1 + j)) % width - 1 ≡ j = omega arith in
+      rw (ne-eqb _ _ r) (ap₂ f q k)
+
+pub dim-tableOf : (n : ℕ) (d : ℕ → ℕ) (f : ℕ → ℕ → ℕ) (c : ℕ) → c < n → dim (tableOf n d f) c ≡ d c
+unfolding tableOf
+dim-tableOf n d f c h = getD-listed (n * width) (wordOf d f) (c * width) (omega arith) ∙ first-word d f c
+
+pub face-tableOf : (n : ℕ) (d : ℕ → ℕ) (f : ℕ → ℕ → ℕ) (c j : ℕ) → c < n → j < faces → face (tableOf n d f) c j ≡ f c j
+unfolding tableOf
+face-tableOf n d f c j h hj =
+    getD-listed (n * width) (wordOf d f) (c * width + (1 + j)) (omega arith) ∙ later-word d f c j hj
+
+-- two tables of n cells with the same dimensions and faces are the same words
+pub table-by-records : (t u : List ℕ) (n : ℕ) → length t ≡ n * width → length u ≡ n * width → ((c : ℕ) → c < n → dim t c ≡ dim u c) → ((c j : ℕ) → c < n → j < faces → face t c j ≡ face u c j) → t ≡ u
+table-by-records t u n ht hu hd hf = ext-getD 0 t u (ht ∙ sym hu) at
+  where
+    go : (i : ℕ) → i < length t → (k : ℕ) → i % width ≡ k → getD t i 0 ≡ getD u i 0
+    go i h zero e =
+        let c : i ≡ i / width * width = omega arith in
+        rw (c) (hd (i / width) (omega arith))
+    go i h (suc k) e =
+        let c : i ≡ i / width * width + (1 + k) = omega arith in
+        rw (c) (hf (i / width) k (omega arith) (omega arith))
+
+    at : (i : ℕ) → i < length t → getD t i 0 ≡ getD u i 0
+    at i h = go i h (i % width) refl

@@ -1,0 +1,89 @@
+-- What the audit computes: the first breach by cell, within a cell the record, then its face places, then the pairs of the law by
+-- smallest j, then l. That this says 'sound' exactly for the valid tables of Table.antt is proved in proofs/.
+-- A reader need not believe this file where it stands beside `Valid`; it fixes the order of the search.
+use mathlib.Core.Bool.{Bool, true, false, _&&_, _||_, not}
+use mathlib.Core.List.{List, [], _∷_}
+use Prim.Native.Nat.{ℕ, zero, suc, _+_, _-_, _≤_, _<_}
+use lib.Dec.{leb, ltb, eqb}
+use Rattle.table.specs.Kind.{capacity, top, faces, width, freeMark, pick, used}
+use Rattle.table.specs.Table.{cellsOf, dim, face, sizedCells}
+use Rattle.table.specs.Calls.{Ground}
+use Rattle.table.specs.declared.Refusal.the-variants.{Length, Invalid}
+use Rattle.table.specs.declared.Breach.{Breach}
+use Rattle.table.specs.declared.Breach.the-variants.{Sound, Record, Face, Law}
+
+-- whether all numbers below n have f
+unfoldable pub all : ℕ → (ℕ → Bool) → Bool
+all zero f = true
+all (suc n) f = all n f && f n
+
+-- the first breach where there is one, else the second
+abbrev pub orElse : Breach → Breach → Breach
+orElse Sound b = b
+orElse (Record c) b = Record c
+orElse (Face c j) b = Face c j
+orElse (Law c j l) b = Law c j l
+
+-- the first breach of f at 0, 1, .. below n
+unfoldable pub scan : (ℕ → Breach) → ℕ → Breach
+scan f zero = Sound
+scan f (suc n) = orElse (scan f n) (f n)
+
+-- a dimension or the free mark, and 65535 in every unused word
+unfoldable pub recordSound : List ℕ → ℕ → Bool
+recordSound t c =
+    (leb (dim t c) top || eqb (dim t c) freeMark)
+    && all faces (λ j. ltb j (used (dim t c)) || eqb (face t c j) freeMark)
+
+-- face j is inside the table, and one dimension down
+unfoldable pub faceSound : List ℕ → ℕ → ℕ → Bool
+faceSound t c j = ltb (face t c j) (cellsOf t) && eqb (dim t c) (suc (dim t (face t c j)))
+
+-- face l of face j against face j − 1 of face l
+unfoldable pub lawSound : List ℕ → ℕ → ℕ → ℕ → Bool
+lawSound t c j l = eqb (face t (face t c j) l) (face t (face t c l) (j - 1))
+
+-- the law speaks of cells of dimension 2 and more
+abbrev pub lawPlaces : ℕ → ℕ
+lawPlaces p = pick (leb 2 p) (used p) 0
+
+unfoldable pub recordBreach : List ℕ → ℕ → Breach
+recordBreach t c = pick (recordSound t c) Sound (Record c)
+
+unfoldable pub faceBreach : List ℕ → ℕ → ℕ → Breach
+faceBreach t c j = pick (faceSound t c j) Sound (Face c j)
+
+unfoldable pub lawBreach : List ℕ → ℕ → ℕ → ℕ → Breach
+lawBreach t c j l = pick (lawSound t c j l) Sound (Law c j l)
+
+unfoldable pub cellBreach : List ℕ → ℕ → Breach
+cellBreach t c =
+    orElse (recordBreach t c)
+    (orElse (scan (faceBreach t c) (used (dim t c)))
+    (scan (λ j. scan (lawBreach t c j) j) (lawPlaces (dim t c))))
+
+unfoldable pub firstBreach : List ℕ → Breach
+firstBreach t = scan (cellBreach t) (cellsOf t)
+
+abbrev pub isSound : Breach → Bool
+isSound Sound = true
+isSound (Record c) = false
+isSound (Face c j) = false
+isSound (Law c j l) = false
+
+-- a length of 8·N, N from 1 to 512
+unfoldable pub sized : List ℕ → Bool
+sized t = not (eqb (sizedCells t) 0)
+
+unfoldable pub sound : List ℕ → Bool
+sound t = isSound (firstBreach t)
+
+-- the two grounds with which every call but emptying and the reader begins
+abbrev pub onLength : List ℕ → Ground
+onLength t = record { refusal = Length; applies = not (sized t) }
+
+abbrev pub onValidity : List ℕ → Ground
+onValidity t = record { refusal = Invalid; applies = not (sound t) }
+
+abbrev pub auditGrounds : List ℕ → List Ground
+auditGrounds t = onLength t ∷ onValidity t ∷ []

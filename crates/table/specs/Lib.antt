@@ -1,0 +1,6 @@
+pub mod Kind
+pub mod Numbers
+pub mod Calls
+pub mod Table
+pub mod Words
+pub mod Audit

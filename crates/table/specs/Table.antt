@@ -1,0 +1,61 @@
+-- The lent words as a table: record c describes cell c; word 0 is its dimension, words 1 to 7 are its faces. These definitions
+-- are the only way into the words. And when a table is valid, line by line as it was published.
+-- A reader must believe these definitions; nothing here is proved.
+use mathlib.Core.Path.{_≡_}
+use mathlib.Core.Bool.{Bool, true, false, _&&_}
+use mathlib.Core.Logic.{_⊎_}
+use mathlib.Core.List.{List, [], _∷_}
+use Prim.Native.Nat.{ℕ, suc, _+_, _-_, _*_, _/_, _%_, _≤_, _<_}
+use lib.ListN.{length, getD}
+use lib.Dec.{leb, ltb, eqb}
+use Rattle.table.specs.Kind.{capacity, top, faces, width, freeMark, pick, used}
+
+-- how many records the words hold
+abbrev pub cellsOf : List ℕ → ℕ
+cellsOf t = length t / width
+
+-- word 0 of record c
+abbrev pub dim : List ℕ → ℕ → ℕ
+dim t c = getD t (c * width) 0
+
+-- face j of record c
+abbrev pub face : List ℕ → ℕ → ℕ → ℕ
+face t c j = getD t (c * width + (1 + j)) 0
+
+-- the seven face words of record c
+abbrev pub facesOf : List ℕ → ℕ → List ℕ
+facesOf t c =
+    face t c 0 ∷ face t c 1 ∷ face t c 2 ∷ face t c 3 ∷ face t c 4 ∷ face t c 5 ∷ face t c 6 ∷ []
+
+-- 8·N words, N from 1 to 512
+pub record Sized (t : List ℕ) : Type 0 where
+  pub whole : length t ≡ cellsOf t * width
+  pub some : 1 ≤ cellsOf t
+  pub room : cellsOf t ≤ capacity
+
+-- N where the words are 8·N with N at most 512, and 0 otherwise
+abbrev pub sizedCells : List ℕ → ℕ
+sizedCells t = pick (eqb (length t % width) 0) (pick (leb (cellsOf t) capacity) (cellsOf t) 0) 0
+
+-- a live cell: inside the table, and with a dimension
+pub record Live (t : List ℕ) (c : ℕ) : Type 0 where
+  pub inside : c < cellsOf t
+  pub low : dim t c ≤ top
+
+unfoldable pub live : List ℕ → ℕ → Bool
+live t c = ltb c (cellsOf t) && leb (dim t c) top
+
+-- A table is valid when
+pub record Valid (t : List ℕ) : Type 0 where
+  -- its words are 8·N,
+  pub sized : Sized t
+  -- every record has a dimension from 0 to 6 or is free,
+  pub records : (c : ℕ) → c < cellsOf t → (dim t c ≤ top) ⊎ (dim t c ≡ freeMark)
+  -- unused words, all seven of a free record, are 65535,
+  pub unused : (c j : ℕ) → c < cellsOf t → used (dim t c) ≤ j → j < faces → face t c j ≡ freeMark
+  -- each used face names a live cell
+  pub face-live : (c j : ℕ) → Live t c → j < used (dim t c) → Live t (face t c j)
+  -- of dimension p − 1,
+  pub face-dim : (c j : ℕ) → Live t c → j < used (dim t c) → dim t c ≡ suc (dim t (face t c j))
+  -- and face l of face j is face j − 1 of face l.
+  pub law : (c j l : ℕ) → Live t c → 2 ≤ dim t c → l < j → j ≤ dim t c → face t (face t c j) l ≡ face t (face t c l) (j - 1)
