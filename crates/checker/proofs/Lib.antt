@@ -1,0 +1,10 @@
+pub mod Tops
+pub mod RowTests
+pub mod Rules
+pub mod Faults
+pub mod Accepting
+pub mod HoleNumbers
+pub mod Tallies
+pub mod LargestMet
+pub mod Answers
+pub mod Walk

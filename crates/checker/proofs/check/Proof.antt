@@ -1,0 +1,74 @@
+-- `check` meets its contract: the lengths decide first, then the audit, then the rows. Assumes nothing.
+use mathlib.Core.Path.{_≡_, sym, _∙_}
+use mathlib.Core.Bool.{true}
+use borrow.Author.Needs.{needs}
+use borrow.Author.Tests.{not-true, not-false}
+use Rattle.table.specs.declared.Refusal.the-variants.{Length}
+use Rattle.audit.proofs.Valid.{audit-accepts-iff-valid}
+use Rattle.checker.specs.Row.{lengthsFit}
+use Rattle.checker.proofs.Accepting.{refused-length, audit-refuses, fitting-length}
+use Rattle.checker.proofs.Answers.{refused-checks}
+use Rattle.checker.proofs.check.Statement.{statement}
+use Rattle.checker.proofs.check.Tie as tie
+
+lengths-fit-requires : tie.Need-lengths-fit-requires
+lengths-fit-requires c κs = search needs
+
+refused-requires : tie.Need-refused-requires
+refused-requires c κs = search needs
+
+returns : tie.Need-returns
+returns c =
+    let f = c .before .before in
+    let a = f .before .before .before .args in
+    refused-checks (a .t .now) (a .evidence .now) Length _
+    (sym (refused-length (a .t .now) (a .evidence .now) (sym (f .lengths-fit .ensures) ∙ not-true _ (c .before .if1 .taken))))
+    (c .refused .ensures .0) (c .refused .ensures .1 .0) (c .refused .ensures .1 .1)
+
+-- past the first test the lengths fit
+fit : (c : tie.Else1) → lengthsFit (c .before .before .before .before .args .t .now) (c .before .before .before .before .args .evidence .now) ≡ true
+fit c = sym (c .before .lengths-fit .ensures) ∙ not-false _ (c .if1 .left)
+
+audit-requires : tie.Need-audit-requires
+audit-requires c κs = search needs
+
+enum-told : tie.Need-enum-told
+enum-told c = search needs
+
+check-rows-requires : tie.Need-check-rows-requires
+check-rows-requires c κs =
+    let d = c .before .before in
+    let a = d .before .before .before .before .before .args in
+    (audit-accepts-iff-valid (a .t .now) .0 (sym (d .audit .ensures) ∙ c .enum-told .given .1), fitting-length (a .t .now) (a .evidence .now) (fit (d .before)))
+
+enum-known-valid : tie.Need-enum-known-valid
+enum-known-valid c = search needs
+
+refused-requires-2 : tie.Need-refused-requires-2
+refused-requires-2 c κs = search needs
+
+returns-2 : tie.Need-returns-2
+returns-2 c = search needs
+
+returns-3 : tie.Need-returns-3
+returns-3 c =
+    let d = c .before .before .before .before in
+    let a = d .before .before .before .before .before .args in
+    refused-checks (a .t .now) (a .evidence .now) _ _
+    (audit-refuses (a .t .now) (a .evidence .now) _ (fit (d .before)) (sym (c .before .before .valid .given .1) ∙ d .audit .ensures))
+    (c .refused2 .ensures .0) (c .refused2 .ensures .1 .0) (c .refused2 .ensures .1 .1)
+
+pub check-spec : {M : Type 1} → statement M
+check-spec =
+    tie.close
+    (tie.spec
+    lengths-fit-requires
+    refused-requires
+    returns
+    audit-requires
+    enum-told
+    check-rows-requires
+    enum-known-valid
+    refused-requires-2
+    returns-2
+    returns-3)

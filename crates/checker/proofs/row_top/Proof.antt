@@ -1,0 +1,24 @@
+-- `row_top` meets its contract: the largest member of the boundary's words is the largest cell of the boundary. Assumes nothing.
+use borrow.Author.Needs.{needs}
+use Rattle.checker.proofs.LargestMet.{top-number}
+use Rattle.checker.proofs.row_top.Statement.{statement}
+use Rattle.checker.proofs.row_top.Tie as tie
+
+row-boundary-requires : tie.Need-row-boundary-requires
+row-boundary-requires c κs = search needs
+
+slice-aggregate-largest : tie.Need-slice-aggregate-largest
+slice-aggregate-largest c = search needs
+
+largest-requires : tie.Need-largest-requires
+largest-requires c κs = search needs
+
+returns : tie.Need-returns
+returns c =
+    let b = c .before .before in
+    let a = b .before .before .before in
+    top-number (a .args .t .now) (a .args .evidence .now) (a .pre .0) (a .args .c) _ (c .largest .result) (b .row-boundary .ensures) (c .largest .ensures)
+
+pub row-top-spec : {M : Type 1} → statement M
+row-top-spec =
+    tie.close (tie.spec row-boundary-requires slice-aggregate-largest largest-requires returns)

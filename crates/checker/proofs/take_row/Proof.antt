@@ -1,0 +1,103 @@
+-- `take_row` meets its contract: rule A decides first, then whether the cell has faces at all, then one look into the set of largest
+-- cells met. Assumes nothing.
+use mathlib.Core.Path.{_≡_, refl, sym, ap, _∙_}
+use mathlib.Core.Bool.{true}
+use native.Mathlib.Omega.{arith}
+use borrow.Author.Needs.{needs}
+use borrow.Author.Tests.{not-true, not-false}
+use Rattle.table.specs.Kind.{used}
+use Rattle.checker.specs.Check.{keepsA}
+use Rattle.checker.specs.Row.{topNumber}
+use Rattle.checker.proofs.Rules.{kept-row-live, kept-no-places}
+use Rattle.checker.proofs.LargestMet.{top-fits}
+use Rattle.checker.proofs.take_row.Statement.{statement}
+use Rattle.checker.proofs.take_row.Tie as tie
+
+keeps-a-requires : tie.Need-keeps-a-requires
+keeps-a-requires c κs = search needs
+
+returns : tie.Need-returns
+returns c = sym (c .before .keeps-a .ensures) ∙ not-true _ (c .if1 .taken)
+
+-- past the first test the row keeps rule A
+kept : (c : tie.Else1) → keepsA (c .before .before .before .before .before .args .t .now) (c .before .before .before .before .before .args .evidence .now) (c .before .before .before .before .before .args .c) ≡ true
+kept c = sym (c .before .keeps-a .ensures) ∙ not-false _ (c .if1 .left)
+
+dim-requires : tie.Need-dim-requires
+dim-requires c κs = search needs
+
+used-requires : tie.Need-used-requires
+used-requires c κs = search needs
+
+returns-2 : tie.Need-returns-2
+returns-2 c =
+    let e = c .before .before .before in
+    let a = e .before .before .before .before .before in (
+      kept e,
+      kept-no-places (a .args .t .now) (a .args .evidence .now) (a .pre .1 .0) (a .args .c) (a .pre .1 .1 .0) (kept e)
+          (sym (ap used (c .before .before .dim .ensures)) ∙ sym (c .before .used .ensures .0) ∙ c .if2 .taken),
+      refl,
+    )
+
+row-top-requires : tie.Need-row-top-requires
+row-top-requires c κs =
+    let e = c .before .before .before in
+    let a = e .before .before .before .before .before in
+    (a .pre .0, (a .pre .1 .0, (a .pre .1 .1 .0, kept-row-live (a .args .t .now) (a .args .evidence .now) (a .pre .1 .0) (a .args .c) (a .pre .1 .1 .0) (kept e))))
+
+enum-told : tie.Need-enum-told
+enum-told c = search needs
+
+enum-known-largest : tie.Need-enum-known-largest
+enum-known-largest c = search needs
+
+has-requires : tie.Need-has-requires
+has-requires c κs = search needs
+
+same-length : tie.Need-same-length
+same-length c = search needs
+
+returns-3 : tie.Need-returns-3
+returns-3 c =
+    let r = c .before .before .before .before .before .before in
+    (kept (r .before .before .before .before), (_, sym (r .row-top .ensures) ∙ ap topNumber (c .before .before .before .before .largest .given .1), sym (c .before .has .ensures) ∙ c .if3 .taken))
+
+toggle-requires : tie.Need-toggle-requires
+toggle-requires c κs =
+    let r = c .before .before .before .before .before .before .before in
+    let a = r .before .before .before .before .before .before .before .before .before in
+    omega (arith, top-fits (a .args .t .now) (a .args .evidence .now) (a .pre .0) (a .args .c) _ (sym (r .row-top .ensures) ∙ ap topNumber (c .before .before .before .before .before .largest .given .1)), a .pre .1 .1 .1)
+
+returns-4 : tie.Need-returns-4
+returns-4 c =
+    let r = c .before .before in
+    (kept (r .before .before .before .before), sym (r .row-top .ensures) ∙ ap topNumber (c .enum-told .given .1), refl)
+
+same-length-2 : tie.Need-same-length-2
+same-length-2 c = search needs
+
+returns-5 : tie.Need-returns-5
+returns-5 c =
+    let h = c .before .before .before .before .before in
+    let r = h .before .before .before .before .before in
+    (kept (r .before .before .before .before), (_, sym (r .row-top .ensures) ∙ ap topNumber (h .before .before .before .largest .given .1), sym (h .has .ensures) ∙ c .before .before .before .before .if3 .left, c .before .before .toggle .ensures))
+
+pub take-row-spec : {M : Type 1} → statement M
+take-row-spec =
+    tie.close
+    (tie.spec
+    keeps-a-requires
+    returns
+    dim-requires
+    used-requires
+    returns-2
+    row-top-requires
+    enum-told
+    enum-known-largest
+    has-requires
+    same-length
+    returns-3
+    toggle-requires
+    returns-4
+    same-length-2
+    returns-5)

@@ -1,0 +1,112 @@
+-- `reader::contents_fit` meets its contract. The invariant: N is the table's, every offset below p is where its body starts, and
+-- `start` is where body p starts. The measure: the bodies left. Assumes nothing.
+use mathlib.Core.Path.{_≡_, sym, _∙_}
+use Prim.Native.Nat.{ℕ, _+_, _*_, _-_, _≤_, _<_}
+use borrow.Author.Count.{below-none, below-more}
+use borrow.Author.Needs.{needs}
+use native.Mathlib.Omega.{arith}
+use Rattle.sketch.specs.Form.{twoAt, fourAt, dimensions, contentsSize, offsetPlace, bodyStart}
+use Rattle.sketch.specs.Read.{countIn}
+use Rattle.sketch.proofs.Sizes.{bodyStart-zero}
+use Rattle.reader.specs.Taking.{longestBody}
+use Rattle.reader.proofs.Contents.{unfit-short, unfit-cells, unfit-offset, unfit-length, fit-all, start-more}
+use Rattle.reader.proofs.contents_fit.Statement.{statement}
+use Rattle.reader.proofs.contents_fit.Tie as tie
+
+abbrev Inv-loop : tie.InvT-loop
+Inv-loop file n start₀ p₀ start p =
+    (p ≤ dimensions)
+    × (twoAt file 0 ≡ n)
+    × (start ≤ contentsSize + p * longestBody)
+    × (start ≡ bodyStart (countIn file) p)
+    × ((q : ℕ) → q < p → fourAt file (offsetPlace q) ≡ bodyStart (countIn file) q)
+
+abbrev μ-loop : tie.MeasureT-loop
+μ-loop file n start₀ p₀ start p = dimensions - p
+
+returns : tie.Need-returns Inv-loop μ-loop
+returns c = unfit-short _ (c .before .before .args .file .now) (c .if1 .taken)
+
+two-at-requires : tie.Need-two-at-requires Inv-loop μ-loop
+two-at-requires c κs = search needs
+
+cast-if2 : tie.Need-cast-if2 Inv-loop μ-loop
+cast-if2 c = search needs
+
+returns-2 : tie.Need-returns-2 Inv-loop μ-loop
+returns-2 c = unfit-cells _ _ (c .before .two-at .result) (c .before .two-at .ensures) (c .if2 .taken)
+
+loop-holds : tie.Need-loop-holds Inv-loop μ-loop
+loop-holds c = (
+  search needs,
+  sym (c .before .two-at .ensures) ∙ c .if2 .left,
+  search needs,
+  sym (bodyStart-zero (countIn (c .before .before .before .before .args .file .now))),
+  below-none _,
+)
+
+offset-in-requires : tie.Need-offset-in-requires Inv-loop μ-loop
+offset-in-requires c κs = omega arith
+
+returns-3 : tie.Need-returns-3 Inv-loop μ-loop
+returns-3 c =
+    let l = c .before .before .before .loop in
+    unfit-offset _ _ (l .p) (c .before .offset-in .result) (l .start) (c .before .before .loop-test .taken) (c .before .offset-in .ensures) (l .inv .3) (c .if3 .taken)
+
+count-in-requires : tie.Need-count-in-requires Inv-loop μ-loop
+count-in-requires c κs = omega arith
+
+body-size-requires : tie.Need-body-size-requires Inv-loop μ-loop
+body-size-requires c κs = search needs
+
+add-start : tie.Need-add-start Inv-loop μ-loop
+add-start c = omega arith
+
+add-p : tie.Need-add-p Inv-loop μ-loop
+add-p c = omega arith
+
+loop-less : tie.Need-loop-less Inv-loop μ-loop
+loop-less c = omega arith
+
+loop-again : tie.Need-loop-again Inv-loop μ-loop
+loop-again c =
+    let o = c .before .before .before in
+    let l = o .before .before .loop in (
+      omega arith,
+      l .inv .1,
+      omega arith,
+      start-more _ (l .p) (l .start) (c .before .count-in .result) (c .body-size .result) (l .inv .3) (c .before .count-in .ensures) (c .body-size .ensures .0),
+      below-more _ (l .p) (l .inv .4) (sym (o .offset-in .ensures) ∙ c .before .before .if3 .left ∙ l .inv .3),
+    )
+
+returns-4 : tie.Need-returns-4 Inv-loop μ-loop
+returns-4 c =
+    let l = c .before .before .loop in
+    unfit-length _ (c .before .before .before .before .before .before .before .args .file .now) (l .p) (l .start) (l .inv .0) (c .before .loop-test .left) (l .inv .3) (c .if4 .taken)
+
+returns-5 : tie.Need-returns-5 Inv-loop μ-loop
+returns-5 c =
+    let l = c .before .before .loop in
+    fit-all _ (c .before .before .before .before .before .before .before .args .file .now) (l .p) (l .start) (l .inv .0) (c .before .loop-test .left) (omega arith) (l .inv .1) (l .inv .4) (l .inv .3) (c .if4 .left)
+
+pub contents-fit-spec : {M : Type 1} → statement M
+contents-fit-spec =
+    tie.close
+    (tie.spec
+    Inv-loop
+    μ-loop
+    returns
+    two-at-requires
+    cast-if2
+    returns-2
+    loop-holds
+    offset-in-requires
+    returns-3
+    count-in-requires
+    body-size-requires
+    add-start
+    add-p
+    loop-less
+    loop-again
+    returns-4
+    returns-5)

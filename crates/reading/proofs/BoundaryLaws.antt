@@ -1,0 +1,95 @@
+-- The boundary is the published one.
+-- What carries it: at a number that is no (p−1)-cell the published sum has no summand, since every face of a p-cell is a
+-- (p−1)-cell. Assumes nothing.
+use mathlib.Core.Path.{_≡_, refl, sym, ap, subst, _∙_}
+use mathlib.Core.Bool.{Bool, true, false, false≢true}
+use mathlib.Core.List.{List}
+use Prim.Native.Nat.{ℕ, zero, suc}
+use borrow.Author.Tests.{eqb-true}
+use lib.IntN.{ℤ, pos, _*ℤ_, *ℤ-zero, *ℤ-comm}
+use lib.Dec.{eqb}
+use Rattle.table.specs.Kind.{pick, used}
+use Rattle.table.specs.Table.{cellsOf, dim, face, Valid}
+use Rattle.reading.specs.Sums.{sumTo, sign}
+use Rattle.reading.specs.Incidence.{incidenceOf}
+use Rattle.reading.specs.Boundary.{isCell, boundaryOf, one, cellBoundary, publishedBoundary}
+use Rattle.reading.proofs.Integers.{one-times}
+use Rattle.reading.proofs.SumLaws.{sum-none, sum-same, sum-zero}
+use Rattle.reading.proofs.Living.{CellOf, cell-true, cell-says, face-cell}
+
+-- a test, and what follows of either answer
+pub by-test {ℓ} : {A : Type ℓ} (b : Bool) → (b ≡ true → A) → (b ≡ false → A) → A
+by-test true f g = f refl
+by-test false f g = g refl
+
+pub pick-times : (b : Bool) (a z : ℤ) → pick b (a *ℤ z) (pos 0) ≡ a *ℤ pick b z (pos 0)
+pick-times true a z = refl
+pick-times false a z = sym (*ℤ-zero a)
+
+times-chosen : (b : Bool) (a : ℤ) → pick b a (pos 0) ≡ a *ℤ pick b (pos 1) (pos 0)
+times-chosen true a = sym (*ℤ-comm a (pos 1) ∙ one-times a)
+times-chosen false a = sym (*ℤ-zero a)
+
+-- a place adds its sign at the face that stands there
+pub sign-at : (j f u : ℕ) → pick (eqb f u) (sign j) (pos 0) ≡ sign j *ℤ one f u
+unfolding one
+sign-at j f u = times-chosen (eqb f u) (sign j)
+
+-- the boundary of a cell alone is its incidences
+pub incidence-is : (t : List ℕ) (s u : ℕ) → incidenceOf t s u ≡ cellBoundary t s u
+unfolding incidenceOf cellBoundary
+incidence-is t s u =
+    sum-same (used (dim t s)) (λ j. pick (eqb (face t s j) u) (sign j) (pos 0)) (λ j. sign j *ℤ one (face t s j) u)
+    (λ j l. sign-at j (face t s j) u)
+
+one-elsewhere : (f u : ℕ) → eqb f u ≡ false → one f u ≡ pos 0
+unfolding one
+one-elsewhere f u e = rw e
+
+-- a point has no boundary
+point-bounds : (t : List ℕ) (c u : ℕ) → dim t c ≡ 0 → cellBoundary t c u ≡ pos 0
+unfolding cellBoundary
+point-bounds t c u e =
+    ap (λ (p : ℕ). sumTo (used p) (λ i. sign i *ℤ one (face t c i) u)) e
+    ∙ sum-none (λ i. sign i *ℤ one (face t c i) u)
+
+module _ (t : List ℕ) (v : Valid t) where
+  -- at a number that is no cell one dimension down a cell's boundary is 0
+  bounds-cells : (p c u : ℕ) → CellOf t (suc p) c → isCell t p u ≡ false → cellBoundary t c u ≡ pos 0
+  unfolding cellBoundary
+  bounds-cells p c u h e =
+      sum-zero (used (dim t c)) (λ i. sign i *ℤ one (face t c i) u) (λ i l.
+      by-test (eqb (face t c i) u)
+      (λ q. let z : isCell t p u ≡ true = subst (λ (w : ℕ). isCell t p w ≡ true) (eqb-true (face t c i) u q) (cell-says t p (face t c i) (face-cell t v p c i h l)) in absurd (clash (isCell t p u) z e))
+      (λ q. ap (λ (z : ℤ). sign i *ℤ z) (one-elsewhere (face t c i) u q) ∙ *ℤ-zero (sign i)))
+    where
+      clash : (b : Bool) → b ≡ true → b ≡ false → ⊥
+      clash b y n = false≢true (sym n ∙ y)
+
+  point-term : (x : ℕ → ℤ) (c u : ℕ) → pick (isCell t 0 c) (x c *ℤ cellBoundary t c u) (pos 0) ≡ pos 0
+  point-term x c u =
+      by-test (isCell t 0 c)
+      (λ e. rw (e, point-bounds t c u (cell-true t 0 c e .level)) (*ℤ-zero (x c)))
+      (λ e. rw e)
+
+  published-elsewhere : (p : ℕ) (x : ℕ → ℤ) (u : ℕ) → isCell t p u ≡ false → publishedBoundary t (suc p) x u ≡ pos 0
+  unfolding publishedBoundary
+  published-elsewhere p x u e =
+      sum-zero (cellsOf t) (λ c. pick (isCell t (suc p) c) (x c *ℤ cellBoundary t c u) (pos 0)) (λ c l.
+      by-test (isCell t (suc p) c)
+      (λ q. rw (q, bounds-cells p c u (cell-true t (suc p) c q) e) (*ℤ-zero (x c)))
+      (λ q. rw q))
+
+  -- The boundary that a call computes is the published one, at every number.
+  pub boundary-is-published : (p : ℕ) (x : ℕ → ℤ) (u : ℕ) → boundaryOf t p x u ≡ publishedBoundary t p x u
+  unfolding boundaryOf publishedBoundary
+  boundary-is-published zero x u =
+      sym (sum-zero (cellsOf t) (λ c. pick (isCell t 0 c) (x c *ℤ cellBoundary t c u) (pos 0)) (λ c l. point-term x c u))
+  boundary-is-published (suc p) x u =
+      by-test (isCell t p u)
+      (λ e.
+      rw e
+      (sum-same (cellsOf t) (λ c. pick (isCell t (suc p) c) (x c *ℤ incidenceOf t c u) (pos 0))
+      (λ c. pick (isCell t (suc p) c) (x c *ℤ cellBoundary t c u) (pos 0))
+      (λ c l. ap (λ (z : ℤ). pick (isCell t (suc p) c) (x c *ℤ z) (pos 0)) (incidence-is t c u))))
+      (λ e. rw e (sym (published-elsewhere p x u e)))

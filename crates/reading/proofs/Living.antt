@@ -1,0 +1,56 @@
+-- What it says of a cell that it is a live p-cell, and of the faces of one.
+-- What carries it: the cases of the tests, and the lines of `Valid`. Assumes nothing.
+use mathlib.Core.Path.{_≡_, sym, _∙_}
+use mathlib.Core.Bool.{true, false}
+use mathlib.Core.List.{List}
+use Prim.Native.Nat.{ℕ, suc, _≤_, _<_}
+use native.Mathlib.Nat.{suc-inj}
+use native.Mathlib.Numerals.{add-one}
+use native.Mathlib.Omega.{arith}
+use borrow.Author.Tests.{eq-eqb, eqb-true, lt-ltb, le-ltb}
+use lib.Dec.{eqb, leb}
+use Rattle.table.specs.Kind.{top, used}
+use Rattle.table.specs.Table.{cellsOf, dim, face, live, Live, Valid}
+use Rattle.audit.proofs.Scans.{and-left, and-right, and-both}
+use Rattle.audit.proofs.Sizes.{live-true, live-says}
+use Rattle.audit.proofs.Places.{used-is}
+use Rattle.reading.specs.Boundary.{isCell}
+
+-- a live p-cell, in words of the table
+pub record CellOf (t : List ℕ) (p c : ℕ) : Type 0 where
+  pub alive : Live t c
+  pub level : dim t c ≡ p
+
+pub cell-true : (t : List ℕ) (p c : ℕ) → isCell t p c ≡ true → CellOf t p c
+unfolding isCell
+cell-true t p c e =
+    record {
+      alive = live-true t c (and-left (live t c) (eqb (dim t c) p) e);
+      level = eqb-true (dim t c) p (and-right (live t c) (eqb (dim t c) p) e);
+    }
+
+pub cell-says : (t : List ℕ) (p c : ℕ) → CellOf t p c → isCell t p c ≡ true
+unfolding isCell
+cell-says t p c h =
+    and-both (live t c) (eqb (dim t c) p) (live-says t c (h .alive)) (eq-eqb (dim t c) p (h .level))
+
+-- a dimension from 1 to the top has one place more than its number
+pub places : (p : ℕ) → suc p ≤ top → used (suc p) ≡ suc (suc p)
+places p h = used-is (suc p) (omega arith) h ∙ add-one (suc p)
+
+-- a face of a cell is a cell one dimension down
+pub face-cell : (t : List ℕ) → Valid t → (p c j : ℕ) → CellOf t (suc p) c → j < used (dim t c) → CellOf t p (face t c j)
+face-cell t v p c j h l =
+    record {
+      alive = v .face-live c j (h .alive) l;
+      level = suc-inj (sym (v .face-dim c j (h .alive) l) ∙ h .level);
+    }
+
+-- the test of a cell, as the code takes it
+pub outside-dead : (t : List ℕ) (c : ℕ) → cellsOf t ≤ c → false ≡ live t c
+unfolding live
+outside-dead t c h = rw (le-ltb c (cellsOf t) h)
+
+pub inside-live : (t : List ℕ) (c : ℕ) → c < cellsOf t → leb (dim t c) top ≡ live t c
+unfolding live
+inside-live t c h = rw (lt-ltb c (cellsOf t) h)

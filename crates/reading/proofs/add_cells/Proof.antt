@@ -1,0 +1,92 @@
+-- `reading::add_cells` meets its contract. The invariant: the result is the boundary of the cells passed. The measure: what is left of
+-- the chain. Assumes nothing.
+use mathlib.Core.Logic.{⊎-elim}
+use mathlib.Core.Path.{_≡_, refl, sym, _∙_}
+use Prim.Native.Nat.{_-_, _≤_}
+use native.Mathlib.Omega.{arith}
+use borrow.Author.Needs.{needs}
+use lib.ListN.{length}
+use Rattle.table.specs.Table.{cellsOf}
+use Rattle.reading.specs.Sums.{integers}
+use Rattle.reading.specs.Boundary.{coefficient}
+use Rattle.reading.specs.Steps.{reached}
+use Rattle.reading.proofs.AllCells.{none-reached, reached-long, cell-fits-back, cell-added-back, cell-passed, all-reached}
+use Rattle.reading.proofs.Registers.{zero-back}
+use Rattle.reading.proofs.add_cells.Statement.{statement}
+use Rattle.reading.proofs.add_cells.Tie as tie
+
+abbrev Inv-loop : tie.InvT-loop
+Inv-loop t chain p result₀ used c₀ c-end result c = (c ≤ length chain) × (c-end ≡ length chain) × (result ≡ integers (cellsOf t) (reached t p (coefficient chain) c))
+
+abbrev μ-loop : tie.MeasureT-loop
+μ-loop t chain p result₀ used c₀ c-end result c = c-end - c
+
+used-requires : tie.Need-used-requires Inv-loop μ-loop
+used-requires c κs = search needs
+
+loop-holds : tie.Need-loop-holds Inv-loop μ-loop
+loop-holds c =
+    let s = c .before .before in
+    let a = s .args in
+    (search needs, refl, none-reached (a .t .now) (a .chain .now) (a .p) (a .result .now) (s .pre))
+
+mul-x : tie.Need-mul-x Inv-loop μ-loop
+mul-x c = search needs
+
+shared-slice-copy-out-x : tie.Need-shared-slice-copy-out-x Inv-loop μ-loop
+shared-slice-copy-out-x c = search needs
+
+add-cell-requires : tie.Need-add-cell-requires Inv-loop μ-loop
+add-cell-requires c κs =
+    let l = c .before .before .before .before in
+    let s = l .before .before .before in
+    let a = s .args in
+    cell-fits-back (a .t .now) (a .chain .now) (a .p) (a .result .now) (s .pre) (l .loop .result) (l .loop .c) (l .loop .inv .2) (l .before .used .result) (l .before .used .ensures .0) (record { sfits = c .before .before .x .given }) (c .before .before .before .loop-test .taken) (c .before .if1 .taken)
+
+add-c : tie.Need-add-c Inv-loop μ-loop
+add-c c = search needs
+
+loop-less : tie.Need-loop-less Inv-loop μ-loop
+loop-less c = search needs
+
+loop-again : tie.Need-loop-again Inv-loop μ-loop
+loop-again c =
+    let l = c .before .before .before in
+    let s = l .before .before .before in
+    let a = s .args in (
+      omega arith,
+      refl,
+      ⊎-elim
+          (λ w. cell-added-back (a .t .now) (a .chain .now) (a .p) (a .result .now) (s .pre) (l .loop .result) (l .loop .c) (l .loop .inv .2) (l .before .used .result) (l .before .used .ensures .0) (record { sfits = c .before .x .given }) (c .before .before .loop-test .taken) (w .0 .taken) (c .if1 .result) (w .4 ∙ w .2 .ensures))
+          (λ w. w .1 ∙ cell-passed (a .t .now) (a .chain .now) (a .p) (a .result .now) (s .pre) (l .loop .result) (l .loop .c) (l .loop .inv .2) (zero-back (coefficient (a .chain .now) (l .loop .c)) (record { sfits = c .before .x .given }) (w .0 .left)))
+          (c .if1 .came),
+    )
+
+same-length : tie.Need-same-length Inv-loop μ-loop
+same-length c =
+    let s = c .before .before .before .before in
+    let a = s .args in
+    reached-long (a .t .now) (a .chain .now) (a .p) (a .result .now) (s .pre) (c .before .loop .result) (c .before .loop .c) (c .before .loop .inv .2) ∙ sym (reached-long (a .t .now) (a .chain .now) (a .p) (a .result .now) (s .pre) (a .result .now) 0 (none-reached (a .t .now) (a .chain .now) (a .p) (a .result .now) (s .pre)))
+
+returns : tie.Need-returns Inv-loop μ-loop
+returns c =
+    let s = c .before .before .before .before in
+    let a = s .args in
+    all-reached (a .t .now) (a .chain .now) (a .p) (a .result .now) (s .pre) (c .before .loop .result) (c .before .loop .c) (c .before .loop .inv .2) (c .before .loop .inv .0) (c .loop-test .left)
+
+pub add-cells-spec : {M : Type 1} → statement M
+add-cells-spec =
+    tie.close
+    (tie.spec
+    Inv-loop
+    μ-loop
+    used-requires
+    loop-holds
+    mul-x
+    shared-slice-copy-out-x
+    add-cell-requires
+    add-c
+    loop-less
+    loop-again
+    same-length
+    returns)

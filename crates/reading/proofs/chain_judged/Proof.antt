@@ -1,0 +1,52 @@
+-- `reading::chain_judged` meets its contract: each way out is the first ground that applies. Assumes nothing.
+use mathlib.Core.Path.{sym, _∙_}
+use borrow.Author.Needs.{needs}
+use borrow.Author.Tests.{not-true, not-false}
+use Rattle.reading.proofs.Judging.{dimension-above, too-large, misplaced, chain-passes}
+use Rattle.reading.proofs.chain_judged.Statement.{statement}
+use Rattle.reading.proofs.chain_judged.Tie as tie
+
+returns : tie.Need-returns
+returns c =
+    let a = c .before .before .args in
+    dimension-above (a .t .now) (a .chain .now) (a .p) (c .if1 .taken)
+
+coefficients-small-requires : tie.Need-coefficients-small-requires
+coefficients-small-requires c κs = search needs
+
+coefficients-placed-requires : tie.Need-coefficients-placed-requires
+coefficients-placed-requires c κs = search needs
+
+returns-2 : tie.Need-returns-2
+returns-2 c =
+    let s = c .before .before in
+    let a = s .before .before .before .args in
+    too-large (a .t .now) (a .chain .now) (a .p) (s .before .if1 .left)
+    (sym (s .coefficients-small .ensures) ∙ not-true _ (c .if2 .taken))
+
+returns-3 : tie.Need-returns-3
+returns-3 c =
+    let s = c .before .before .before in
+    let a = s .before .before .before .args in
+    misplaced (a .t .now) (a .chain .now) (a .p) (s .before .if1 .left)
+    (sym (s .coefficients-small .ensures) ∙ not-false _ (c .before .if2 .left))
+    (sym (c .before .before .coefficients-placed .ensures) ∙ not-true _ (c .if3 .taken))
+
+returns-4 : tie.Need-returns-4
+returns-4 c =
+    let s = c .before .before .before in
+    let a = s .before .before .before .args in
+    chain-passes (a .t .now) (a .chain .now) (a .p) (s .before .if1 .left)
+    (sym (s .coefficients-small .ensures) ∙ not-false _ (c .before .if2 .left))
+    (sym (c .before .before .coefficients-placed .ensures) ∙ not-false _ (c .if3 .left))
+
+pub chain-judged-spec : {M : Type 1} → statement M
+chain-judged-spec =
+    tie.close
+    (tie.spec
+    returns
+    coefficients-small-requires
+    coefficients-placed-requires
+    returns-2
+    returns-3
+    returns-4)

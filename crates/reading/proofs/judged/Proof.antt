@@ -1,0 +1,55 @@
+-- `reading::judged` meets its contract: the lengths decide first, then the audit, then the chain. Assumes nothing.
+use mathlib.Core.Path.{sym, _∙_}
+use borrow.Author.Tests.{not-true, not-false}
+use borrow.Author.Needs.{needs}
+use Rattle.reading.proofs.Judging.{lengths-say, lengths-refused, audit-refused, audit-passed}
+use Rattle.reading.proofs.judged.Statement.{statement}
+use Rattle.reading.proofs.judged.Tie as tie
+
+lengths-fit-requires : tie.Need-lengths-fit-requires
+lengths-fit-requires c κs = search needs
+
+returns : tie.Need-returns
+returns c =
+    let a = c .before .before .before .args in
+    lengths-refused (a .t .now) (a .chain .now) (a .p) (a .result .now) (sym (c .before .lengths-fit .ensures) ∙ not-true _ (c .if1 .taken))
+
+audit-requires : tie.Need-audit-requires
+audit-requires c κs = search needs
+
+enum-known-found : tie.Need-enum-known-found
+enum-known-found c = search needs
+
+enum-told : tie.Need-enum-told
+enum-told c = search needs
+
+chain-judged-requires : tie.Need-chain-judged-requires
+chain-judged-requires c κs =
+    let b = c .before .before .before in
+    let a = b .before .before .before .args in
+    lengths-say (a .t .now) (a .chain .now) (a .result .now) (sym (b .before .lengths-fit .ensures) ∙ not-false _ (b .if1 .left)) .chain
+
+returns-2 : tie.Need-returns-2
+returns-2 c =
+    let b = c .before .before .before .before in
+    let a = b .before .before .before .args in
+    audit-refused (a .t .now) (a .chain .now) (a .p) (a .result .now) (sym (b .before .lengths-fit .ensures) ∙ not-false _ (b .if1 .left)) (c .before .before .before .audit .result) (c .before .before .before .audit .ensures) _ (c .before .found .given .1)
+
+returns-3 : tie.Need-returns-3
+returns-3 c =
+    let b = c .before .before .before .before in
+    let a = b .before .before .before .args in
+    audit-passed (a .t .now) (a .chain .now) (a .p) (a .result .now) (sym (b .before .lengths-fit .ensures) ∙ not-false _ (b .if1 .left)) (c .before .before .before .audit .result) (c .before .before .before .audit .ensures) _ (c .before .enum-told .given .1) (c .chain-judged .ensures)
+
+pub judged-spec : {M : Type 1} → statement M
+judged-spec =
+    tie.close
+    (tie.spec
+    lengths-fit-requires
+    returns
+    audit-requires
+    enum-known-found
+    enum-told
+    chain-judged-requires
+    returns-2
+    returns-3)

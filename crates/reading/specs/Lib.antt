@@ -1,0 +1,4 @@
+pub mod Sums
+pub mod Incidence
+pub mod Boundary
+pub mod Steps

@@ -1,0 +1,16 @@
+pub mod RowWords
+pub mod Heights
+pub mod Zeros
+pub mod Counts
+pub mod Verdicts
+pub mod Boundaries
+pub mod Owners
+pub mod Starts
+pub mod RowAdditions
+pub mod RowSteps
+pub mod Progress
+pub mod Arrays
+pub mod Meeting
+pub mod OneOutcome
+pub mod Computed
+pub mod Existence

@@ -1,0 +1,159 @@
+-- The largest live dimension: no live cell exceeds it, some live cell has it, and the levels are one more.
+-- What carries them: recursion on the number of cells, with the cases of the cell at the bound. Assumes nothing.
+use mathlib.Core.Path.{_≡_, refl, sym, ap, _∙_}
+use mathlib.Core.Bool.{Bool, true, false, false≢true, or-false}
+use mathlib.Core.List.{List}
+use mathlib.Core.Logic.{_⊎_, inl, inr, ⊎-elim}
+use Prim.Native.Nat.{ℕ, zero, suc, max, _+_, _≤_, _<_}
+use native.Mathlib.Nat.{not-suc-le-zero, le-of-suc-le-suc, eq-or-lt-of-le, le-max-left, le-max-right, max-eq-left, max-eq-right, zero-max, suc-max-suc}
+use native.Mathlib.Numerals.{add-one}
+use native.Mathlib.Omega.{arith}
+use Rattle.counting.specs.Counting.{someHas}
+use Rattle.counting.proofs.Counting.{below-or-not, true-or-false, someHas-at, someHas-each}
+use Rattle.table.specs.Kind.{top, faces, pick}
+use Rattle.table.specs.Table.{cellsOf, dim, live}
+use Rattle.audit.proofs.Sizes.{live-true, live-says}
+use Rattle.audit.proofs.Records.{not-true-false}
+use Rattle.sheet.specs.Sheet.{largestDim}
+use Rattle.sheet.specs.Sides.{levelsBelow}
+
+module _ (t : List ℕ) where
+  -- at the start, at a live cell, and at a number that is none
+  largest-zero : largestDim t 0 ≡ 0
+  unfolding largestDim
+  largest-zero = refl
+
+  largest-live : (m : ℕ) → live t m ≡ true → largestDim t (suc m) ≡ max (largestDim t m) (dim t m)
+  unfolding largestDim
+  largest-live m e = rw e
+
+  largest-free : (m : ℕ) → live t m ≡ false → largestDim t (suc m) ≡ largestDim t m
+  unfolding largestDim
+  largest-free m e = rw e
+
+  largest-grows : (m : ℕ) → largestDim t m ≤ largestDim t (suc m)
+  largest-grows m =
+      ⊎-elim
+      (λ e. omega (arith, largest-live m e, le-max-left (largestDim t m) (dim t m)))
+      (λ e. omega (arith, largest-free m e))
+      (true-or-false (live t m))
+
+  -- no live cell exceeds it
+  pub largest-bounds : (m c : ℕ) → c < m → live t c ≡ true → dim t c ≤ largestDim t m
+  largest-bounds zero c h e = absurd (not-suc-le-zero h)
+  largest-bounds (suc m) c h e = go (eq-or-lt-of-le (le-of-suc-le-suc h)) (largest-bounds m c)
+    where
+      go : (c ≡ m) ⊎ (c < m) → (c < m → live t c ≡ true → dim t c ≤ largestDim t m) → dim t c ≤ largestDim t (suc m)
+      go (inl i) below =
+          let l : live t m ≡ true = sym (ap (live t) i) ∙ e in
+          let d : dim t c ≡ dim t m = ap (dim t) i in
+          omega (arith, d, largest-live m l, le-max-right (largestDim t m) (dim t m))
+      go (inr l) below = omega (arith, below l e, largest-grows m)
+
+  -- a live cell has it, or no cell is live
+  pub record Attained (m : ℕ) : Type 0 where
+    pub cell : ℕ
+    pub inside : cell < m
+    pub living : live t cell ≡ true
+    pub level : dim t cell ≡ largestDim t m
+
+  abbrev Bare : ℕ → Type 0
+  Bare m = (someHas (live t) m ≡ false) × (largestDim t m ≡ 0)
+
+  at-bound : (m : ℕ) → live t m ≡ true → largestDim t m ≤ dim t m → Attained (suc m)
+  at-bound m e h =
+      record { cell = m; inside = omega arith; living = e; level = sym (max-eq-right h) ∙ sym (largest-live m e) }
+
+  stays : (m : ℕ) → Attained m → largestDim t (suc m) ≡ largestDim t m → Attained (suc m)
+  stays m a e =
+      record { cell = a .cell; inside = omega (arith, a .inside); living = a .living; level = a .level ∙ sym e }
+
+  none-yet : someHas (live t) 0 ≡ false
+  unfolding someHas
+  none-yet = refl
+
+  none-more : (m : ℕ) → live t m ≡ false → someHas (live t) (suc m) ≡ someHas (live t) m
+  unfolding someHas
+  none-more m e = rw e (or-false (someHas (live t) m))
+
+  attained-or-bare : (m : ℕ) → Attained m ⊎ Bare m
+  attained-or-bare zero = inr (none-yet, largest-zero)
+  attained-or-bare (suc m) = go (true-or-false (live t m)) (attained-or-bare m) (below-or-not (dim t m) (largestDim t m))
+    where
+      go : (live t m ≡ true) ⊎ (live t m ≡ false) → Attained m ⊎ Bare m → (dim t m < largestDim t m) ⊎ (largestDim t m ≤ dim t m) → Attained (suc m) ⊎ Bare (suc m)
+      go (inl e) a (inr h) = inl (at-bound m e h)
+      go (inl e) (inl a) (inl h) = inl (stays m a (largest-live m e ∙ max-eq-left (omega arith)))
+      go (inl e) (inr b) (inl h) = absurd (omega (arith, b .1))
+      go (inr e) (inl a) h = inl (stays m a (largest-free m e))
+      go (inr e) (inr b) h = inr (none-more m e ∙ b .0, largest-free m e ∙ b .1)
+
+  pub largest-attained : (m : ℕ) → someHas (live t) m ≡ true → Attained m
+  largest-attained m e = ⊎-elim (λ a. a) (λ b. absurd (false≢true (sym (b .0) ∙ e))) (attained-or-bare m)
+
+  pub largest-bare : (m : ℕ) → someHas (live t) m ≡ false → largestDim t m ≡ 0
+  largest-bare m e =
+      ⊎-elim
+      (λ a. absurd (false≢true (sym (someHas-each (live t) m e (a .cell) (a .inside)) ∙ a .living)))
+      (λ b. b .1)
+      (attained-or-bare m)
+
+  -- the levels at the start, at a live cell that is higher or not, and at a number that is none
+  pub levels-zero : levelsBelow t 0 ≡ 0
+  unfolding levelsBelow
+  levels-zero = refl
+
+  levels-live : (m : ℕ) → live t m ≡ true → levelsBelow t (suc m) ≡ max (levelsBelow t m) (suc (dim t m))
+  unfolding levelsBelow
+  levels-live m e = rw e
+
+  levels-higher : (m : ℕ) → live t m ≡ true → levelsBelow t m ≤ dim t m → levelsBelow t (m + 1) ≡ dim t m + 1
+  levels-higher m e h = rw (add-one m, add-one (dim t m)) (levels-live m e ∙ max-eq-right (omega arith))
+
+  levels-lower : (m : ℕ) → live t m ≡ true → dim t m < levelsBelow t m → levelsBelow t (m + 1) ≡ levelsBelow t m
+  levels-lower m e h = rw (add-one m) (levels-live m e ∙ max-eq-left h)
+
+  levels-free : (m : ℕ) → live t m ≡ false → levelsBelow t (suc m) ≡ levelsBelow t m
+  unfolding levelsBelow
+  levels-free m e = rw e
+
+  levels-past : (m : ℕ) → live t m ≡ false → levelsBelow t (m + 1) ≡ levelsBelow t m
+  levels-past m e = rw (add-one m) (levels-free m e)
+
+  -- one turn of the pass that finds them: l levels below cell m become l′
+  abbrev Turned : ℕ → ℕ → Type 0
+  Turned m l′ = (l′ ≡ levelsBelow t (m + 1)) × (l′ ≤ faces)
+
+  pub turn-higher : (m l l′ : ℕ) → m < cellsOf t → l ≡ levelsBelow t m → dim t m ≤ top → l ≤ dim t m → l′ ≡ dim t m + 1 → Turned m l′
+  turn-higher m l l′ h e low up i =
+      (i ∙ sym (levels-higher m (live-says t m (record { inside = h; low = low })) (omega arith)), omega arith)
+
+  pub turn-lower : (m l l′ : ℕ) → m < cellsOf t → l ≡ levelsBelow t m → l ≤ faces → dim t m ≤ top → dim t m < l → l′ ≡ l → Turned m l′
+  turn-lower m l l′ h e few low down i =
+      (i ∙ e ∙ sym (levels-lower m (live-says t m (record { inside = h; low = low })) (omega arith)), omega arith)
+
+  pub turn-free : (m l l′ : ℕ) → l ≡ levelsBelow t m → l ≤ faces → top < dim t m → l′ ≡ l → Turned m l′
+  turn-free m l l′ e few free i =
+      (i ∙ e ∙ sym (levels-past m (not-true-false (live t m) (λ v. omega (arith, live-true t m v .low)))), omega arith)
+
+  pub levels-all : (l m n : ℕ) → n ≡ cellsOf t → m ≤ n → n ≤ m → l ≡ levelsBelow t m → l ≡ levelsBelow t (cellsOf t)
+  levels-all l m n e h g i =
+      let z : m ≡ cellsOf t = omega arith in
+      i ∙ ap (levelsBelow t) z
+
+  -- they are one more than the largest dimension, and 0 where no cell is live
+  level-cases : (m : ℕ) (b : Bool) → someHas (live t) m ≡ b → levelsBelow t m ≡ pick b (suc (largestDim t m)) 0 → max (levelsBelow t m) (suc (dim t m)) ≡ suc (max (largestDim t m) (dim t m))
+  level-cases m true s e = ap (λ l. max l (suc (dim t m))) e ∙ suc-max-suc (largestDim t m) (dim t m)
+  level-cases m false s e =
+      ap (λ l. max l (suc (dim t m))) e
+      ∙ zero-max (suc (dim t m))
+      ∙ ap suc (sym (zero-max (dim t m)) ∙ ap (λ l. max l (dim t m)) (sym (largest-bare m s)))
+
+  pub levels-are : (m : ℕ) → levelsBelow t m ≡ pick (someHas (live t) m) (suc (largestDim t m)) 0
+  levels-are zero = rw none-yet levels-zero
+  levels-are (suc m) = go (true-or-false (live t m)) (levels-are m)
+    where
+      go : (live t m ≡ true) ⊎ (live t m ≡ false) → levelsBelow t m ≡ pick (someHas (live t) m) (suc (largestDim t m)) 0 → levelsBelow t (suc m) ≡ pick (someHas (live t) (suc m)) (suc (largestDim t (suc m))) 0
+      go (inl e) h =
+          rw (someHas-at (live t) (suc m) m (omega arith) e, largest-live m e)
+          (levels-live m e ∙ level-cases m (someHas (live t) m) refl h)
+      go (inr e) h = rw (none-more m e, largest-free m e) (levels-free m e ∙ h)

@@ -1,0 +1,7 @@
+pub mod Dimensions
+pub mod Over
+pub mod Sheets
+pub mod Wings
+pub mod Counters
+pub mod Turns
+pub mod Answers

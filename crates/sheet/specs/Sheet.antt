@@ -1,0 +1,59 @@
+-- The sheet test. A table is a sheet when it has a live cell, every live cell is an n-cell or reached from one through faces, and
+-- every (n−1)-cell is a face of at most two n-cells, where n is the largest live dimension.
+-- A reader must believe these definitions; nothing here is proved.
+use mathlib.Core.Path.{_≡_}
+use mathlib.Core.Bool.{Bool, true, false, _&&_, _||_, not}
+use mathlib.Core.List.{List, [], _∷_}
+use Prim.Native.Nat.{ℕ, zero, suc, max, _≤_, _<_}
+use lib.Dec.{eqb, leb}
+use Rattle.counting.specs.Counting.{howMany, someHas}
+use Rattle.table.specs.Kind.{pick, used}
+use Rattle.table.specs.Table.{cellsOf, dim, face, Live, live}
+use Rattle.table.specs.Audit.{auditGrounds, all}
+use Rattle.table.specs.Calls.{verdict, onVerdict}
+use Rattle.sheet.specs.declared.Judged.{Judged}
+use Rattle.sheet.specs.declared.Judged.the-variants.{Yes, No, NotJudged}
+
+-- an n-cell, or a face of a cell that is reached
+pub data Reached (t : List ℕ) (n : ℕ) : ℕ → Type 0 where
+  itself : {c : ℕ} → Live t c → dim t c ≡ n → Reached t n c
+  through : {s : ℕ} (j : ℕ) → Reached t n s → j < used (dim t s) → Reached t n (face t s j)
+
+-- whether u is a face of c, at whatever place
+unfoldable pub hasFace : List ℕ → ℕ → ℕ → Bool
+hasFace t c u = someHas (λ j. eqb (face t c j) u) (used (dim t c))
+
+-- how many n-cells have u as a face
+unfoldable pub wings : List ℕ → ℕ → ℕ → ℕ
+wings t n u = howMany (λ c. (live t c && eqb (dim t c) n) && hasFace t c u) (cellsOf t)
+
+-- the sheet as it is described, n its dimension
+pub record IsSheet (t : List ℕ) (n : ℕ) : Type 0 where
+  pub cell : ℕ
+  pub living : Live t cell
+  pub level : dim t cell ≡ n
+  pub largest : (c : ℕ) → Live t c → dim t c ≤ n
+  pub reached : (c : ℕ) → Live t c → Reached t n c
+  pub two-wings : (u : ℕ) → Live t u → n ≡ suc (dim t u) → wings t n u ≤ 2
+
+-- the largest live dimension below cell number m; 0 where there is none
+unfoldable pub largestDim : List ℕ → ℕ → ℕ
+largestDim t zero = 0
+largestDim t (suc m) = pick (live t m) (max (largestDim t m) (dim t m)) (largestDim t m)
+
+unfoldable pub topDim : List ℕ → ℕ
+topDim t = largestDim t (cellsOf t)
+
+-- whether u is a face of a live cell
+unfoldable pub covered : List ℕ → ℕ → Bool
+covered t u = someHas (λ c. live t c && hasFace t c u) (cellsOf t)
+
+-- What the call computes: a live cell that is no n-cell is a face of some cell. That this is the same is proved in proofs/.
+unfoldable pub isSheet : List ℕ → Bool
+isSheet t =
+    someHas (live t) (cellsOf t)
+    && (all (cellsOf t) (λ c. not (live t c) || (eqb (dim t c) (topDim t) || covered t c))
+    && all (cellsOf t) (λ u. not (live t u && eqb (suc (dim t u)) (topDim t)) || leb (wings t (topDim t) u) 2))
+
+abbrev pub sheetAnswer : List ℕ → Judged
+sheetAnswer t = onVerdict (verdict (auditGrounds t)) (pick (isSheet t) Yes No) NotJudged

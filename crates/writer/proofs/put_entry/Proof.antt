@@ -1,0 +1,24 @@
+-- `writer::put_entry` meets its contract: the offset goes where the count ended. Assumes nothing.
+use native.Mathlib.Omega.{arith}
+use borrow.Author.Needs.{needs}
+use Rattle.sketch.proofs.Bytes.{length-two}
+use Rattle.writer.proofs.Pasting.{put-then}
+use Rattle.writer.proofs.put_entry.Statement.{statement}
+use Rattle.writer.proofs.put_entry.Tie as tie
+
+put-two-requires : tie.Need-put-two-requires
+put-two-requires c κs = search needs
+
+put-four-requires : tie.Need-put-four-requires
+put-four-requires c κs =
+    omega (arith, length-two (c .before .before .before .before .before .before .args .count))
+
+same-length : tie.Need-same-length
+same-length c = search needs
+
+returns : tie.Need-returns
+returns c =
+    put-then _ _ _ _ _ _ _ _ (c .before .before .before .before .before .before .put-two .ensures) (c .before .before .put-four .ensures)
+
+pub put-entry-spec : {M : Type 1} → statement M
+put-entry-spec = tie.close (tie.spec put-two-requires put-four-requires same-length returns)
