@@ -1,0 +1,3 @@
+-- The measured pieces, and what each of them claims.
+pub mod Cases
+pub mod Claims

@@ -1,0 +1,84 @@
+-- From what a call ensures to what its C function ensures: the answer's code, and the value on acceptance alone.
+-- What carries each: the answer is the definition's, so its code and its value are too. Assumes nothing.
+use mathlib.Core.Path.{_≡_, refl, sym, ap, subst, _∙_}
+use mathlib.Core.List.{List}
+use Prim.Native.Nat.{ℕ, _+_}
+use native.Mathlib.Omega.{arith}
+use lib.ListN.{replicate}
+use Rattle.homology.specs.Evidence.{cellsIn, holesIn}
+use Rattle.table.specs.Calls.{Ends}
+use Rattle.table.specs.Words.{listed}
+use Rattle.table.specs.Numbers.{numberOf}
+use Rattle.table.specs.declared.Refusal.{Refusal}
+use Rattle.table.specs.declared.Verdict.{Verdict}
+use Rattle.table.specs.declared.Verdict.the-variants.{Accepted, Refused}
+use Rattle.complex.specs.Cells.{cells}
+use Rattle.rows.specs.Rows.{rows}
+use Rattle.checker.specs.Check.{checkVerdict, perDimension, Checks}
+use Rattle.checker.specs.declared.Checked.{Checked}
+use Rattle.reducer.specs.Reduce.{Reduces, Reduction, reduceVerdict}
+use Rattle.reducer.specs.declared.Reduced.{Reduced}
+use Rattle.writer.specs.declared.Written.{Written}
+use Rattle.kernel.specs.Face.{code, writtenCode, writtenValue, sevenAfter, rowValue, rowAfter, Answers, Fills, CheckEnds, ReduceEnds}
+
+-- a verdict's code
+pub coded : {B : Type 0} {v w : Verdict} {b l : B} {r : ℕ} → Ends v b w l → r ≡ code w → Ends (code v) b r l
+coded e q = record { answer = q ∙ ap code (e .answer); left = e .left }
+
+-- the answer a of a call is a′: its code and its value
+pub told : {A B : Type 0} (codeOf : A → ℕ) (valueOf : A → B → B) (a a′ : A) (old v : B) (r : ℕ) → a ≡ a′ → r ≡ codeOf a′ → v ≡ valueOf a′ old → Answers (codeOf a) (valueOf a old) r v
+told codeOf valueOf a a′ old v r e q w =
+    record { answer = q ∙ sym (ap codeOf e); told = w ∙ sym (ap (λ x. valueOf x old) e) }
+
+-- the same with the buffer that the call left
+pub filled : {A : Type 0} (codeOf : A → ℕ) (valueOf : A → ℕ → ℕ) (a a′ : A) (old v r : ℕ) (left l : List ℕ) → Ends a left a′ l → r ≡ codeOf a′ → v ≡ valueOf a′ old → Fills (codeOf a) left (valueOf a old) r l v
+filled codeOf valueOf a a′ old v r left l e q w =
+    record { answer = q ∙ ap codeOf (e .answer); buffer = e .left; told = w ∙ ap (λ x. valueOf x old) (e .answer) }
+
+-- the same where the answer is known to be a″
+pub filled-by : {left l : List ℕ} {a a′ a″ : Written} {v r : ℕ} (old : ℕ) → Ends a left a′ l → a′ ≡ a″ → r ≡ writtenCode a″ → v ≡ writtenValue a″ old → Fills (writtenCode a) left (writtenValue a old) r l v
+filled-by {left} {l} {a} {a′} {a″} {v} {r} old e i q w =
+    filled writtenCode writtenValue a a′ old v r left l e (q ∙ sym (ap writtenCode i)) (w ∙ sym (ap (λ x. writtenValue x old) i))
+
+accepted-not-refused : (v : Verdict) (x : Refusal) → v ≡ Accepted → v ≡ Refused x → ⊥
+accepted-not-refused v x p q = let z : _≡_ {A = ℕ} 0 1 = cc in omega arith
+
+module _ (t ev : List ℕ) (r : Reduced) (ev′ : List ℕ) (h : Reduces t ev r ev′) (old : List ℕ) where
+  pub reduce-accepted : r .verdict ≡ Accepted → ReduceEnds t ev old 0 ev′ (r .additions)
+  reduce-accepted e =
+      let v : reduceVerdict t ev ≡ Accepted = sym (h .verdict-is) ∙ e in
+      record {
+        answer = sym (ap code v);
+        refused-left = λ x q. absurd (accepted-not-refused (reduceVerdict t ev) x v q);
+        accepted = λ q. h .accepted q;
+      }
+
+  pub reduce-refused : (x : Refusal) (n : ℕ) → r .verdict ≡ Refused x → n ≡ numberOf x → ReduceEnds t ev old n ev′ old
+  reduce-refused x n e q =
+      let v : reduceVerdict t ev ≡ Refused x = sym (h .verdict-is) ∙ e in
+      record {
+        answer = q ∙ sym (ap code v);
+        refused-left = λ y w. (h .refused-left y w, refl);
+        accepted = λ w. absurd (accepted-not-refused (reduceVerdict t ev) x w v);
+      }
+
+module _ (t ev : List ℕ) (r : Checked) (h : Checks t ev r) (cells₀ holes₀ : List ℕ) (row₀ : ℕ) where
+  pub check-accepted : r .verdict ≡ Accepted → CheckEnds t ev cells₀ holes₀ row₀ 0 (r .cells) (r .holes) row₀
+  check-accepted e =
+      let v : checkVerdict t ev ≡ Accepted = sym (h .verdict-is) ∙ e in
+      record {
+        answer = sym (ap code v);
+        cells-told = h .cells-are ∙ ap (λ w. perDimension w (cellsIn (cells t))) v ∙ sym (ap (λ w. sevenAfter w (listed 7 (cellsIn (cells t))) cells₀) v);
+        holes-told = h .holes-are ∙ ap (λ w. perDimension w (holesIn (cells t) (rows t ev))) v ∙ sym (ap (λ w. sevenAfter w (listed 7 (holesIn (cells t) (rows t ev))) holes₀) v);
+        row-told = sym (ap (λ w. rowAfter w row₀) v);
+      }
+
+  pub check-refused : (x : Refusal) (n row₁ : ℕ) → r .verdict ≡ Refused x → Answers (numberOf x) (rowValue x row₀) n row₁ → CheckEnds t ev cells₀ holes₀ row₀ n cells₀ holes₀ row₁
+  check-refused x n row₁ e a =
+      let v : checkVerdict t ev ≡ Refused x = sym (h .verdict-is) ∙ e in
+      record {
+        answer = a .answer ∙ sym (ap code v);
+        cells-told = sym (ap (λ w. sevenAfter w (listed 7 (cellsIn (cells t))) cells₀) v);
+        holes-told = sym (ap (λ w. sevenAfter w (listed 7 (holesIn (cells t) (rows t ev))) holes₀) v);
+        row-told = a .told ∙ sym (ap (λ w. rowAfter w row₀) v);
+      }

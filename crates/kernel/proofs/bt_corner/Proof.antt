@@ -1,0 +1,20 @@
+-- `kernel::bt_corner` meets its contract: it hands on what `corner` ensures. Assumes nothing.
+use mathlib.Core.Path.{sym}
+use Rattle.kernel.proofs.Telling.{told}
+use Rattle.kernel.specs.Face.{namedCode, namedValue}
+use borrow.Author.Needs.{needs}
+use Rattle.kernel.proofs.bt_corner.Statement.{statement}
+use Rattle.kernel.proofs.bt_corner.Tie as tie
+
+corner-requires : tie.Need-corner-requires
+corner-requires c κs = search needs
+
+name-cell-requires : tie.Need-name-cell-requires
+name-cell-requires c κs = search needs
+
+returns : tie.Need-returns
+returns c = told namedCode namedValue _ _ _ _ _ (sym (c .before .before .corner .ensures)) (c .name-cell .ensures .answer)
+    (c .name-cell .ensures .told)
+
+pub bt-corner-spec : {M : Type 1} → statement M
+bt-corner-spec = tie.close (tie.spec corner-requires name-cell-requires returns)

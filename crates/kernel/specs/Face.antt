@@ -1,0 +1,119 @@
+-- The face for C and Rust: every function answers 0 or the refusal's number, and a value is written on acceptance alone. Each
+-- description is the call's own, put into these words.
+-- A reader must believe these definitions; nothing here is proved.
+use mathlib.Core.Path.{_≡_}
+use mathlib.Core.List.{List}
+use Prim.Native.Nat.{ℕ}
+use lib.IntN.{ℤ}
+use Rattle.table.specs.Numbers.{numberOf}
+use Rattle.table.specs.Words.{listed}
+use Rattle.homology.specs.Evidence.{cellsIn, holesIn}
+use Rattle.complex.specs.Cells.{cells}
+use Rattle.rows.specs.Rows.{rows}
+use Rattle.checker.specs.Check.{checkVerdict}
+use Rattle.reducer.specs.Reduce.{Reduction, reduceVerdict}
+use Rattle.table.specs.declared.Refusal.{Refusal}
+use Rattle.table.specs.declared.Refusal.the-variants.{Length, Invalid, NotLive, SameCell, DimensionsDiffer, FacesDiffer, NotClosed, TopMarked, NoRoom, TooLarge, Misplaced, NoSuchPlace, RuleA, RuleB, BadContents, BadNumber}
+use Rattle.table.specs.declared.Verdict.{Verdict}
+use Rattle.table.specs.declared.Verdict.the-variants.{Accepted, Refused}
+use Rattle.table.specs.declared.Named.{Named}
+use Rattle.table.specs.declared.Named.the-variants.{Cell, NoCell}
+use Rattle.reading.specs.declared.Sum.{Sum}
+use Rattle.reading.specs.declared.Sum.the-variants.{Is, NoSum}
+use Rattle.sheet.specs.declared.Judged.{Judged}
+use Rattle.sheet.specs.declared.Judged.the-variants.{Yes, No, NotJudged}
+use Rattle.writer.specs.declared.Written.{Written}
+use Rattle.writer.specs.declared.Written.the-variants.{Bytes, NotWritten}
+
+-- 0 for an accepted call, else the refusal's number
+abbrev pub code : Verdict → ℕ
+code Accepted = 0
+code (Refused r) = numberOf r
+
+abbrev pub namedCode : Named → ℕ
+namedCode (Cell c) = 0
+namedCode (NoCell r) = numberOf r
+
+abbrev pub sumCode : Sum → ℕ
+sumCode (Is z) = 0
+sumCode (NoSum r) = numberOf r
+
+abbrev pub judgedCode : Judged → ℕ
+judgedCode Yes = 0
+judgedCode No = 0
+judgedCode (NotJudged r) = numberOf r
+
+abbrev pub writtenCode : Written → ℕ
+writtenCode (Bytes n) = 0
+writtenCode (NotWritten r) = numberOf r
+
+-- what stands behind a value's pointer afterwards: the value, or on a refusal what stood there
+abbrev pub namedValue : Named → ℕ → ℕ
+namedValue (Cell c) old = c
+namedValue (NoCell r) old = old
+
+abbrev pub sumValue : Sum → ℤ → ℤ
+sumValue (Is z) old = z
+sumValue (NoSum r) old = old
+
+abbrev pub judgedValue : Judged → ℕ → ℕ
+judgedValue Yes old = 1
+judgedValue No old = 0
+judgedValue (NotJudged r) old = old
+
+abbrev pub writtenValue : Written → ℕ → ℕ
+writtenValue (Bytes n) old = n
+writtenValue (NotWritten r) old = old
+
+-- seven numbers, written on acceptance alone
+abbrev pub sevenAfter : Verdict → List ℕ → List ℕ → List ℕ
+sevenAfter Accepted new old = new
+sevenAfter (Refused r) new old = old
+
+-- the row that rules A and B name, and otherwise what stood there
+abbrev pub rowValue : Refusal → ℕ → ℕ
+rowValue Length old = old
+rowValue Invalid old = old
+rowValue NotLive old = old
+rowValue SameCell old = old
+rowValue DimensionsDiffer old = old
+rowValue FacesDiffer old = old
+rowValue NotClosed old = old
+rowValue TopMarked old = old
+rowValue NoRoom old = old
+rowValue TooLarge old = old
+rowValue Misplaced old = old
+rowValue NoSuchPlace old = old
+rowValue (RuleA c) old = c
+rowValue (RuleB c) old = c
+rowValue BadContents old = old
+rowValue BadNumber old = old
+
+-- the row behind its pointer afterwards: written with 13 and 14 alone
+abbrev pub rowAfter : Verdict → ℕ → ℕ
+rowAfter Accepted old = old
+rowAfter (Refused r) old = rowValue r old
+
+-- a call that answers r and leaves v behind the value's pointer
+pub record Answers {A : Type 0} (code : ℕ) (value : A) (r : ℕ) (v : A) : Type 0 where
+  pub answer : r ≡ code
+  pub told : v ≡ value
+
+-- a call that answers r, leaves l in its buffer and v behind the value's pointer
+pub record Fills (code : ℕ) (left : List ℕ) (value r : ℕ) (l : List ℕ) (v : ℕ) : Type 0 where
+  pub answer : r ≡ code
+  pub buffer : l ≡ left
+  pub told : v ≡ value
+
+-- the checker: live cells and hole numbers on acceptance, the row with 13 and 14
+pub record CheckEnds (t ev cells₀ holes₀ : List ℕ) (row₀ r : ℕ) (cells₁ holes₁ : List ℕ) (row₁ : ℕ) : Type 0 where
+  pub answer : r ≡ code (checkVerdict t ev)
+  pub cells-told : cells₁ ≡ sevenAfter (checkVerdict t ev) (listed 7 (cellsIn (cells t))) cells₀
+  pub holes-told : holes₁ ≡ sevenAfter (checkVerdict t ev) (listed 7 (holesIn (cells t) (rows t ev))) holes₀
+  pub row-told : row₁ ≡ rowAfter (checkVerdict t ev) row₀
+
+-- the reducer: rows and counts by its rule on acceptance, nothing changed on a refusal
+pub record ReduceEnds (t ev additions₀ : List ℕ) (r : ℕ) (ev′ additions₁ : List ℕ) : Type 0 where
+  pub answer : r ≡ code (reduceVerdict t ev)
+  pub refused-left : (x : Refusal) → reduceVerdict t ev ≡ Refused x → (ev′ ≡ ev) × (additions₁ ≡ additions₀)
+  pub accepted : reduceVerdict t ev ≡ Accepted → Reduction t ev′ additions₁

@@ -1,0 +1,216 @@
+// The face for C and Rust: one function for each public call, no logic of its own. Each answers 0 or the refusal's number, and writes
+// a value on acceptance alone.
+ghost use mathlib.Core.Path.{_≡_};
+ghost use Prim.Native.Nat.{ℕ};
+ghost use Rattle.table.specs.Calls.{verdict, Ends};
+ghost use Rattle.table.specs.Numbers.{numberOf};
+ghost use Rattle.table.specs.Audit.{auditGrounds};
+ghost use Rattle.audit.specs.Empty.{emptyVerdict, emptyLeaves};
+ghost use Rattle.merge.specs.Merge.{mergeAnswer, mergeLeaves};
+ghost use Rattle.cone.specs.Cone.{coneAnswer, coneLeaves};
+ghost use Rattle.reading.specs.Incidence.{incidenceAnswer};
+ghost use Rattle.reading.specs.Boundary.{boundaryVerdict, boundaryLeaves};
+ghost use Rattle.corner.specs.Corner.{cornerAnswer};
+ghost use Rattle.sheet.specs.Sheet.{sheetAnswer};
+ghost use Rattle.writer.specs.Write.{writeAnswer, writeLeaves};
+ghost use Rattle.sketch.specs.Read.{readVerdict, readLeaves};
+ghost use Rattle.kernel.specs.Face.{code, namedCode, namedValue, sumCode, sumValue, judgedCode, judgedValue, writtenCode, writtenValue, rowValue, Answers, Fills, CheckEnds, ReduceEnds};
+use reading::Sum;
+use sheet::Judged;
+use table::Named;
+use table::Refusal;
+use table::Verdict;
+use writer::Written;
+
+// 0 for an accepted call, else the refusal's number.
+fn code_of(v: Verdict) -> u32
+    ensures { λ r. ⌜ r ≡ code v ⌝ }
+{
+    match v {
+        Verdict::Accepted => 0,
+        Verdict::Refused(r) => table::number(r),
+    }
+}
+
+// The code of an answer that names a cell, which goes to `value`.
+fn name_cell(n: Named, value: &mut u16) -> u32
+    ensures { λ r. ⌜ Answers (namedCode n) (namedValue n (now (value .entry))) r (now (value .exit)) ⌝ }
+{
+    match n {
+        Named::Cell(c) => {
+            *value = c;
+            0
+        }
+        Named::NoCell(r) => table::number(r),
+    }
+}
+
+// The refusal's number; the row that rules A and B name goes to `row`.
+fn name_row(r: Refusal, row: &mut u16) -> u32
+    ensures { λ n. ⌜ Answers (numberOf r) (rowValue r (now (row .entry))) n (now (row .exit)) ⌝ }
+{
+    match r {
+        Refusal::Length => 1,
+        Refusal::Invalid => 2,
+        Refusal::NotLive => 3,
+        Refusal::SameCell => 4,
+        Refusal::DimensionsDiffer => 5,
+        Refusal::FacesDiffer => 6,
+        Refusal::NotClosed => 7,
+        Refusal::TopMarked => 8,
+        Refusal::NoRoom => 9,
+        Refusal::TooLarge => 10,
+        Refusal::Misplaced => 11,
+        Refusal::NoSuchPlace => 12,
+        Refusal::RuleA(c) => {
+            *row = c;
+            13
+        }
+        Refusal::RuleB(c) => {
+            *row = c;
+            14
+        }
+        Refusal::BadContents => 15,
+        Refusal::BadNumber => 16,
+    }
+}
+
+#[no_mangle]
+pub extern "C" fn bt_empty(table: &mut [u16]) -> u32
+    ensures { λ r. ⌜ Ends (code (emptyVerdict (now (table .entry)))) (emptyLeaves (now (table .entry))) r (now (table .exit)) ⌝ }
+{
+    code_of(audit::empty(table))
+}
+
+#[no_mangle]
+pub extern "C" fn bt_audit(table: &[u16]) -> u32
+    ensures { λ r. ⌜ r ≡ code (verdict (auditGrounds (now (table .entry)))) ⌝ }
+{
+    code_of(audit::audit(table))
+}
+
+#[no_mangle]
+pub extern "C" fn bt_cone(table: &mut [u16], marks: &[u64], apex: &mut u16) -> u32
+    ensures { λ r. ⌜ Fills (namedCode (coneAnswer (now (table .entry)) (now (marks .entry)))) (coneLeaves (now (table .entry)) (now (marks .entry))) (namedValue (coneAnswer (now (table .entry)) (now (marks .entry))) (now (apex .entry))) r (now (table .exit)) (now (apex .exit)) ⌝ }
+{
+    name_cell(cone::cone(table, marks), apex)
+}
+
+#[no_mangle]
+pub extern "C" fn bt_merge(table: &mut [u16], a: u16, b: u16, kept: &mut u16) -> u32
+    ensures { λ r. ⌜ Fills (namedCode (mergeAnswer (now (table .entry)) a b)) (mergeLeaves (now (table .entry)) a b) (namedValue (mergeAnswer (now (table .entry)) a b) (now (kept .entry))) r (now (table .exit)) (now (kept .exit)) ⌝ }
+{
+    name_cell(merge::merge(table, a, b), kept)
+}
+
+#[no_mangle]
+pub extern "C" fn bt_incidence(table: &[u16], cell: u16, face: u16, sum: &mut i64) -> u32
+    ensures { λ r. ⌜ Answers (sumCode (incidenceAnswer (now (table .entry)) cell face)) (sumValue (incidenceAnswer (now (table .entry)) cell face) (now (sum .entry))) r (now (sum .exit)) ⌝ }
+{
+    let answer = reading::incidence(table, cell, face);
+    match answer {
+        Sum::Is(z) => {
+            *sum = z;
+            0
+        }
+        Sum::NoSum(r) => table::number(r),
+    }
+}
+
+#[no_mangle]
+pub extern "C" fn bt_boundary(
+    table: &[u16],
+    chain: &[i64],
+    dimension: u16,
+    boundary: &mut [i64],
+) -> u32
+    ensures { λ r. ⌜ Ends (code (boundaryVerdict (now (table .entry)) (now (chain .entry)) dimension (now (boundary .entry)))) (boundaryLeaves (now (table .entry)) (now (chain .entry)) dimension (now (boundary .entry))) r (now (boundary .exit)) ⌝ }
+{
+    code_of(reading::boundary(table, chain, dimension, boundary))
+}
+
+#[no_mangle]
+pub extern "C" fn bt_corner(table: &[u16], cell: u16, k: u16, corner: &mut u16) -> u32
+    ensures { λ r. ⌜ Answers (namedCode (cornerAnswer (now (table .entry)) cell k)) (namedValue (cornerAnswer (now (table .entry)) cell k) (now (corner .entry))) r (now (corner .exit)) ⌝ }
+{
+    name_cell(corner::corner(table, cell, k), corner)
+}
+
+#[no_mangle]
+pub extern "C" fn bt_sheet(table: &[u16], yes: &mut u8) -> u32
+    ensures { λ r. ⌜ Answers (judgedCode (sheetAnswer (now (table .entry)))) (judgedValue (sheetAnswer (now (table .entry))) (now (yes .entry))) r (now (yes .exit)) ⌝ }
+{
+    let answer = sheet::sheet(table);
+    match answer {
+        Judged::Yes => {
+            *yes = 1;
+            0
+        }
+        Judged::No => {
+            *yes = 0;
+            0
+        }
+        Judged::NotJudged(r) => table::number(r),
+    }
+}
+
+#[no_mangle]
+pub extern "C" fn bt_reduce(table: &[u16], evidence: &mut [u64], additions: &mut [u64; 7]) -> u32
+    ensures { λ r. ⌜ ReduceEnds (now (table .entry)) (now (evidence .entry)) (now (additions .entry)) r (now (evidence .exit)) (now (additions .exit)) ⌝ }
+{
+    let answer = reducer::reduce(table, evidence);
+    let verdict = answer.verdict;
+    match verdict {
+        Verdict::Accepted => {
+            let counts = answer.additions;
+            *additions = counts;
+            0
+        }
+        Verdict::Refused(r) => table::number(r),
+    }
+}
+
+#[no_mangle]
+pub extern "C" fn bt_check(
+    table: &[u16],
+    evidence: &[u64],
+    cells: &mut [u16; 7],
+    holes: &mut [u16; 7],
+    row: &mut u16,
+) -> u32
+    ensures { λ r. ⌜ CheckEnds (now (table .entry)) (now (evidence .entry)) (now (cells .entry)) (now (holes .entry)) (now (row .entry)) r (now (cells .exit)) (now (holes .exit)) (now (row .exit)) ⌝ }
+{
+    let answer = checker::check(table, evidence);
+    let verdict = answer.verdict;
+    match verdict {
+        Verdict::Accepted => {
+            let live = answer.cells;
+            let found = answer.holes;
+            *cells = live;
+            *holes = found;
+            0
+        }
+        Verdict::Refused(r) => name_row(r, row),
+    }
+}
+
+#[no_mangle]
+pub extern "C" fn bt_write(table: &[u16], target: &mut [u8], written: &mut usize) -> u32
+    ensures { λ r. ⌜ Fills (writtenCode (writeAnswer (now (table .entry)) (now (target .entry)))) (writeLeaves (now (table .entry)) (now (target .entry))) (writtenValue (writeAnswer (now (table .entry)) (now (target .entry))) (now (written .entry))) r (now (target .exit)) (now (written .exit)) ⌝ }
+{
+    let answer = writer::write(table, target);
+    match answer {
+        Written::Bytes(n) => {
+            *written = n;
+            0
+        }
+        Written::NotWritten(r) => table::number(r),
+    }
+}
+
+#[no_mangle]
+pub extern "C" fn bt_read(table: &mut [u16], file: &[u8]) -> u32
+    ensures { λ r. ⌜ Ends (code (readVerdict (now (table .entry)) (now (file .entry)))) (readLeaves (now (table .entry)) (now (file .entry))) r (now (table .exit)) ⌝ }
+{
+    code_of(reader::read(table, file))
+}

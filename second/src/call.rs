@@ -1,0 +1,151 @@
+//! One call with all that is lent to it, and all that it leaves behind: the form in which the model and the library are compared.
+
+use crate::model::table::{Answer, Refusal, FREE, RECORD};
+use crate::model::{building, evidence, reading, sketch};
+
+/// What a value pointer refers to before the call. No accepted call answers these values.
+pub const BEFORE_8: u8 = 0x5A;
+pub const BEFORE_16: u16 = 0xA5C3;
+pub const BEFORE_64: i64 = 0x5A5A_0FF0_1234_5678;
+
+/// A call and its own arguments; buffers that are written to are given with their old contents.
+#[derive(Clone, Debug, PartialEq, Eq)]
+pub enum Call {
+    Empty,
+    Audit,
+    Cone { marks: Vec<u64> },
+    Merge { a: u16, b: u16 },
+    Incidence { cell: u16, face: u16 },
+    Boundary { chain: Vec<i64>, dimension: u16, result: Vec<i64> },
+    Corner { cell: u16, k: u16 },
+    Sheet,
+    Reduce { evidence: Vec<u64> },
+    Check { evidence: Vec<u64> },
+    Write { target: Vec<u8> },
+    Read { file: Vec<u8> },
+}
+
+/// The names of the calls and the refusals that 01 gives each of them.
+pub const NAMES: [(&str, &[u32]); 12] = [
+    ("empty", &[1]),
+    ("audit", &[1, 2]),
+    ("cone", &[1, 2, 3, 7, 8, 9]),
+    ("merge", &[1, 2, 3, 4, 5, 6]),
+    ("incidence", &[1, 2, 3, 5]),
+    ("boundary", &[1, 2, 10, 11, 12]),
+    ("corner", &[1, 2, 3, 12]),
+    ("sheet", &[1, 2]),
+    ("reduce", &[1, 2]),
+    ("check", &[1, 2, 13, 14]),
+    ("write", &[1, 2, 9]),
+    ("read", &[1, 2, 15, 16]),
+];
+
+impl Call {
+    /// The place of the call in `NAMES`.
+    pub fn place(&self) -> usize {
+        match self {
+            Call::Empty => 0,
+            Call::Audit => 1,
+            Call::Cone { .. } => 2,
+            Call::Merge { .. } => 3,
+            Call::Incidence { .. } => 4,
+            Call::Boundary { .. } => 5,
+            Call::Corner { .. } => 6,
+            Call::Sheet => 7,
+            Call::Reduce { .. } => 8,
+            Call::Check { .. } => 9,
+            Call::Write { .. } => 10,
+            Call::Read { .. } => 11,
+        }
+    }
+}
+
+/// A call on a table.
+#[derive(Clone, Debug, PartialEq, Eq)]
+pub struct Case {
+    pub table: Vec<u16>,
+    pub call: Call,
+}
+
+/// What a call left: the refusal's number or 0, what each value pointer refers to, and every buffer.
+#[derive(Clone, Debug, PartialEq, Eq)]
+pub struct Outcome {
+    pub number: u32,
+    pub values: Vec<i64>,
+    pub after: Case,
+    /// Names a buffer next to which a guard word changed.
+    pub guard: Option<String>,
+}
+
+/// Something that answers calls: the model or the library.
+pub type Run = fn(&Case) -> Outcome;
+
+fn one<T: Into<i64>>(answer: Answer<T>, before: i64) -> (u32, Vec<i64>) {
+    match answer {
+        Ok(value) => (0, vec![value.into()]),
+        Err(refusal) => (refusal.number, vec![before]),
+    }
+}
+
+fn plain(answer: Answer<()>) -> (u32, Vec<i64>) {
+    (answer.map_or_else(|refusal| refusal.number, |()| 0), vec![])
+}
+
+fn checked(answer: Answer<evidence::Count>) -> (u32, Vec<i64>) {
+    let mut values = vec![BEFORE_16 as i64; 15];
+    match answer {
+        Ok(count) => {
+            for p in 0..7 {
+                values[p] = count.cells[p] as i64;
+                values[7 + p] = count.holes[p] as i64;
+            }
+            (0, values)
+        }
+        Err(Refusal { number, row }) => {
+            values[14] = row.map_or(values[14], i64::from);
+            (number, values)
+        }
+    }
+}
+
+/// Answers a call by the model.
+pub fn by_model(case: &Case) -> Outcome {
+    let mut after = case.clone();
+    let table = &mut after.table;
+    let (number, values) = match &mut after.call {
+        Call::Empty => plain(building::empty(table)),
+        Call::Audit => plain(building::audit(table)),
+        Call::Cone { marks } => one(building::cone(table, marks), BEFORE_16.into()),
+        Call::Merge { a, b } => one(building::merge(table, *a, *b), BEFORE_16.into()),
+        Call::Incidence { cell, face } => one(reading::incidence(table, *cell, *face), BEFORE_64),
+        Call::Boundary { chain, dimension, result } => plain(reading::boundary(table, chain, *dimension, result)),
+        Call::Corner { cell, k } => one(reading::corner(table, *cell, *k), BEFORE_16.into()),
+        Call::Sheet => one(reading::sheet(table), BEFORE_8.into()),
+        Call::Reduce { evidence } => match evidence::reduce(table, evidence) {
+            Ok(additions) => (0, additions.iter().map(|count| *count as i64).collect()),
+            Err(refusal) => (refusal.number, vec![BEFORE_64; 7]),
+        },
+        Call::Check { evidence } => checked(evidence::check(table, evidence)),
+        Call::Write { target } => one(sketch::write(table, target).map(|length| length as i64), BEFORE_64),
+        Call::Read { file } => plain(sketch::read(table, file)),
+    };
+    Outcome { number, values, after, guard: None }
+}
+
+/// The records of a table that are not free, one to a line, each up to its last word that is not 65535. A table that is no
+/// whole number of records is given word by word.
+pub fn described(table: &[u16]) -> String {
+    let mut text = format!("  table of {} words", table.len());
+    let room = table.len() / RECORD;
+    if table.len() != room * RECORD {
+        return text + &format!(": {table:?}\n");
+    }
+    text += &format!(", N = {room}\n");
+    for (number, record) in table.chunks(RECORD).enumerate() {
+        if let Some(last) = record.iter().rposition(|word| *word != FREE) {
+            text += &format!("    {number}: {:?}\n", &record[..=last]);
+        }
+    }
+    text
+}

@@ -1,0 +1,8 @@
+//! Random runs that compare the library with the model: after every call the answer, every value pointer and every word of
+//! every buffer.
+
+pub mod calls;
+pub mod files;
+pub mod runs;
+pub mod shrink;
+pub mod tables;

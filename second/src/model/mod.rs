@@ -1,0 +1,11 @@
+//! The model: every call of 01 in plain Rust, written from its rules alone.
+//!
+//! Each call decodes the lent words into a `Table`, works on sets and lists, and writes the lent words at its end, so that a
+//! refused call has changed nothing. The refusals stand in the order in which the call tests them.
+
+pub mod building;
+pub mod evidence;
+pub mod ranks;
+pub mod reading;
+pub mod sketch;
+pub mod table;
