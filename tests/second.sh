@@ -16,4 +16,6 @@ second=target/second/release/second
 made=$(mktemp -d)
 trap 'rm -rf "$made"' EXIT
 "$second" sketches "$made"
-diff -r "$made" examples
+for file in "$made"/*; do
+    cmp "$file" "examples/${file##*/}"
+done
