@@ -16,7 +16,8 @@ use Rattle.table.specs.declared.Breach.the-variants.{Sound, Record, Face, Law}
 use Rattle.audit.proofs.Scans.{picks-sound, picks-breach, picked-sound, scan-each, scan-more, scan-stop}
 use Rattle.audit.proofs.Places.{used-is, used-fits, law-places-says}
 use Rattle.audit.proofs.Valid.{lawScan, face-inside, face-below, face-says, law-true, law-says}
-use Rattle.audit.proofs.Records.{not-true-false, faces-at}
+use Rattle.audit.proofs.Records.{not-true-false}
+use Rattle.table.proofs.Records.{faces-at}
 
 -- where the search of a cell stops, and where it goes on
 module _ (t : List ℕ) (c : ℕ) where

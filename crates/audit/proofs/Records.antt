@@ -22,17 +22,3 @@ no-kind t c h g =
 
 pub not-unused : (t : List ℕ) (c j : ℕ) → used (dim t c) ≤ j → j < faces → (face t c j ≡ freeMark → ⊥) → recordSound t c ≡ false
 not-unused t c j h l g = not-true-false (recordSound t c) (λ e. g (record-unused t c e j h l))
-
-seven : (t : List ℕ) (c j : ℕ) → j < faces → getD (facesOf t c) j 0 ≡ face t c j
-seven t c zero h = refl
-seven t c (suc zero) h = refl
-seven t c (suc (suc zero)) h = refl
-seven t c (suc (suc (suc zero))) h = refl
-seven t c (suc (suc (suc (suc zero)))) h = refl
-seven t c (suc (suc (suc (suc (suc zero))))) h = refl
-seven t c (suc (suc (suc (suc (suc (suc zero)))))) h = refl
-seven t c (suc (suc (suc (suc (suc (suc (suc j))))))) h = omega arith
-
--- the seven words by value are the record's faces
-pub faces-at : (t : List ℕ) (c : ℕ) (fs : List ℕ) → fs ≡ facesOf t c → (j : ℕ) → j < faces → getD fs j 0 ≡ face t c j
-faces-at t c fs e j h = ap (λ l. getD l j 0) e ∙ seven t c j h

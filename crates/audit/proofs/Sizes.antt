@@ -11,6 +11,7 @@ use lib.ListN.{length}
 use lib.Dec.{leb, ltb, eqb}
 use Rattle.table.specs.Kind.{capacity, top, width, pick}
 use Rattle.table.specs.Table.{cellsOf, dim, Sized, sizedCells, Live, live}
+use Rattle.table.proofs.Records.{sized-cells-is}
 use Rattle.table.specs.Audit.{sized}
 use Rattle.audit.proofs.Scans.{and-left, and-right, and-both}
 
@@ -29,9 +30,6 @@ sized-is-sized t e =
       room = leb-true (cellsOf t) capacity (k .1);
     }
 
-pub sized-cells-is : (t : List ℕ) → Sized t → sizedCells t ≡ cellsOf t
-sized-cells-is t s = simp (eq-eqb (length t % width) 0 (omega (arith, s .whole)), le-leb (cellsOf t) capacity (s .room))
-
 pub sized-says : (t : List ℕ) → Sized t → sized t ≡ true
 unfolding sized
 sized-says t s = rw (sized-cells-is t s) (ap not (ne-eqb (cellsOf t) 0 (λ e. omega (arith, s .some))))
@@ -44,15 +42,3 @@ no-cells t e = ap not (eq-eqb (sizedCells t) 0 e)
 pub some-cells : (t : List ℕ) → (sizedCells t ≡ 0 → ⊥) → sized t ≡ true
 unfolding sized
 some-cells t e = ap not (ne-eqb (sizedCells t) 0 e)
-
-pub live-true : (t : List ℕ) (c : ℕ) → live t c ≡ true → Live t c
-unfolding live
-live-true t c e =
-    record {
-      inside = ltb-true c (cellsOf t) (and-left (ltb c (cellsOf t)) (leb (dim t c) top) e);
-      low = leb-true (dim t c) top (and-right (ltb c (cellsOf t)) (leb (dim t c) top) e);
-    }
-
-pub live-says : (t : List ℕ) (c : ℕ) → Live t c → live t c ≡ true
-unfolding live
-live-says t c h = and-both (ltb c (cellsOf t)) (leb (dim t c) top) (lt-ltb c (cellsOf t) (h .inside)) (le-leb (dim t c) top (h .low))

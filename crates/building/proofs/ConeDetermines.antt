@@ -12,7 +12,7 @@ use Rattle.bitset.specs.Bits.{member}
 use Rattle.table.specs.Kind.{faces}
 use Rattle.table.specs.Table.{cellsOf, dim, face}
 use Rattle.table.proofs.Words.{table-by-records}
-use Rattle.audit.proofs.Sizes.{live-says}
+use Rattle.table.proofs.Records.{live-says}
 use Rattle.table.specs.declared.Verdict.the-variants.{Accepted}
 use Rattle.cone.specs.Cone.{apexOf, coneOf, coned, coneVerdict}
 use Rattle.building.specs.ConeRule.{IsCone}

@@ -14,7 +14,7 @@ use Rattle.table.specs.Table.{cellsOf, dim, face, Live, Valid}
 use Rattle.table.specs.Calls.{leaves}
 use Rattle.table.specs.declared.Verdict.{Verdict}
 use Rattle.table.specs.declared.Verdict.the-variants.{Accepted, Refused}
-use Rattle.audit.proofs.Sizes.{live-says}
+use Rattle.table.proofs.Records.{live-says}
 use Rattle.audit.proofs.Places.{used-is, used-says}
 use Rattle.cone.specs.Cone.{free, apexOf, coneOf, coned, coneVerdict, coneLeaves}
 use Rattle.building.specs.ConeRule.{IsCone}

@@ -16,7 +16,7 @@ use Rattle.table.specs.Table.{cellsOf, dim, face, live}
 use Rattle.table.specs.declared.Verdict.the-variants.{Accepted}
 use Rattle.table.proofs.Words.{length-tableOf, dim-tableOf, face-tableOf}
 use Rattle.audit.proofs.Scans.{and-right}
-use Rattle.audit.proofs.Sizes.{live-true}
+use Rattle.table.proofs.Records.{live-true}
 use Rattle.audit.proofs.Places.{used-says}
 use Rattle.counting.specs.Counting.{howMany}
 use Rattle.cone.specs.Cone.{free, apexOf, coneOf, baseOf, newCells, coneFace, given, coned, coneVerdict}

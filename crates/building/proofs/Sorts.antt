@@ -14,7 +14,7 @@ use Rattle.bitset.specs.Bits.{member}
 use Rattle.table.specs.Kind.{top, used}
 use Rattle.table.specs.Table.{cellsOf, live, Live}
 use Rattle.audit.proofs.Scans.{and-left, and-right, and-both}
-use Rattle.audit.proofs.Sizes.{live-true}
+use Rattle.table.proofs.Records.{live-true}
 use Rattle.audit.proofs.Places.{used-is}
 use Rattle.counting.specs.Counting.{someHas}
 use Rattle.cone.specs.Cone.{free}

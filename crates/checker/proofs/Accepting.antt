@@ -21,7 +21,8 @@ use Rattle.table.specs.declared.Refusal.{Refusal}
 use Rattle.table.specs.declared.Refusal.the-variants as refusals
 use Rattle.table.specs.declared.Verdict.{Verdict}
 use Rattle.table.specs.declared.Verdict.the-variants.{Accepted, Refused}
-use Rattle.audit.proofs.Sizes.{sized-is-sized, sized-cells-is, no-cells, some-cells}
+use Rattle.audit.proofs.Sizes.{sized-is-sized, no-cells, some-cells}
+use Rattle.table.proofs.Records.{sized-cells-is}
 use Rattle.audit.proofs.Valid.{sound-is-valid, valid-is-sound, valid-is-sized, audit-accepts-iff-valid}
 use Rattle.complex.specs.Cells.{cells}
 use Rattle.rows.specs.Rows.{boundaryWords, evidenceWords, rows}

@@ -14,7 +14,7 @@ use Rattle.table.proofs.Words.{getD-listed}
 use Rattle.table.specs.declared.Verdict.the-variants.{Accepted}
 use Rattle.complex.specs.Cells.{cells}
 use Rattle.complex.proofs.Boundary.{valid-is-lawful}
-use Rattle.complex.proofs.Living.{live-true}
+use Rattle.table.proofs.Records.{live-true}
 use Rattle.rows.specs.Rows.{rows}
 use Rattle.checker.specs.declared.Checked.{Checked}
 use Rattle.checker.specs.Check.{checkVerdict, perDimension, Checks}

@@ -21,7 +21,7 @@ use Rattle.table.specs.Kind.{top}
 use Rattle.table.specs.Table.{dim, live, Live}
 use Rattle.table.specs.Audit.{all}
 use Rattle.audit.proofs.Scans.{all-true, all-says}
-use Rattle.complex.proofs.Living.{live-true, live-says}
+use Rattle.table.proofs.Records.{live-says, live-true}
 use Rattle.rows.proofs.Members.{member-inside}
 use Rattle.checker.specs.Row.{alike, wordKeeps, rowKeeps}
 

@@ -24,7 +24,7 @@ use Rattle.table.specs.Kind.{used}
 use Rattle.table.specs.Table.{cellsOf, dim, face, live, Live, Valid}
 use Rattle.table.specs.Audit.{all}
 use Rattle.complex.specs.Cells.{cells, oddFace}
-use Rattle.complex.proofs.Living.{live-true}
+use Rattle.table.proofs.Records.{live-true}
 use Rattle.rows.specs.Rows.{rowWidth, evidenceWords, rowOf, rows, RowLive}
 use Rattle.rows.proofs.RowWords.{length-rowOf, rule-a-live}
 use Rattle.rows.proofs.Boundaries.{boundary-past}

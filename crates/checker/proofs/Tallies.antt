@@ -22,7 +22,7 @@ use Rattle.table.specs.Table.{cellsOf, dim, live, Live, Valid}
 use Rattle.table.specs.Words.{listed}
 use Rattle.table.proofs.Words.{length-listed, getD-listed}
 use Rattle.complex.specs.Cells.{cells}
-use Rattle.complex.proofs.Living.{live-says}
+use Rattle.table.proofs.Records.{live-says}
 use Rattle.complex.proofs.Boundary.{valid-is-lawful}
 use Rattle.rows.specs.Rows.{evidenceWords, rows}
 use Rattle.checker.specs.Check.{keepsA, rowBoundary, rowTop}

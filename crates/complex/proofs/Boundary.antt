@@ -13,7 +13,8 @@ use Rattle.homology.proofs.Parity.{odd-cong, odd-none, odd-times, odd-swap, odd
 use Rattle.table.specs.Kind.{used}
 use Rattle.table.specs.Table.{Live, Valid, cellsOf, dim, face, live}
 use Rattle.complex.specs.Cells.{oddFace, cells}
-use Rattle.complex.proofs.Living.{live-true, live-says, places, face-level}
+use Rattle.complex.proofs.Living.{places, face-level}
+use Rattle.table.proofs.Records.{live-says, live-true}
 use Rattle.complex.proofs.Pairs.{odd-below, odd-at, pairs-cancel}
 
 -- the marks of a live cell are the parity of its places

@@ -12,18 +12,6 @@ use Rattle.homology.proofs.Marks.{both, left-on, right-on}
 use Rattle.table.specs.Kind.{top, used}
 use Rattle.table.specs.Table.{Live, Valid, cellsOf, dim, face, live}
 
-pub live-true : (t : List ℕ) (c : ℕ) → live t c ≡ true → Live t c
-unfolding live
-live-true t c e =
-    record {
-      inside = ltb-true c (cellsOf t) (left-on (ltb c (cellsOf t)) (leb (dim t c) top) e);
-      low = leb-true (dim t c) top (right-on (ltb c (cellsOf t)) (leb (dim t c) top) e);
-    }
-
-pub live-says : (t : List ℕ) (c : ℕ) → Live t c → live t c ≡ true
-unfolding live
-live-says t c h = both (lt-ltb c (cellsOf t) (h .inside)) (le-leb (dim t c) top (h .low))
-
 -- a dimension from 1 to the top has one place more than its number
 pub places : (p : ℕ) → suc p ≤ top → used (suc p) ≡ suc (suc p)
 places p h = simp (ne-eqb (suc p) 0 (λ e. omega arith), le-leb (suc p) top h) (omega arith)

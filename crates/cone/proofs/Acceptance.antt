@@ -17,7 +17,7 @@ use Rattle.table.specs.Table.{cellsOf, dim, face, Live, live, Valid}
 use Rattle.table.specs.Audit.{sized, sound}
 use Rattle.table.specs.declared.Verdict.the-variants.{Accepted}
 use Rattle.audit.proofs.Scans.{and-left, and-right, and-both}
-use Rattle.audit.proofs.Sizes.{live-true, live-says}
+use Rattle.table.proofs.Records.{live-says, live-true}
 use Rattle.audit.proofs.Valid.{sound-is-valid, valid-is-sound, valid-is-sized}
 use Rattle.counting.specs.Counting.{howMany, someHas}
 use Rattle.cone.specs.Cone.{free, newCells, markedNotLive, notClosed, topMarked, noRoom, coneGrounds, coneVerdict}

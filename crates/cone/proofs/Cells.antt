@@ -6,7 +6,7 @@ use Prim.Native.Nat.{ℕ, _≤_, _<_}
 use borrow.Author.Tests.{lt-ltb, le-ltb, lt-leb}
 use Rattle.table.specs.Kind.{top}
 use Rattle.table.specs.Table.{cellsOf, dim, live}
-use Rattle.audit.proofs.Sizes.{live-says}
+use Rattle.table.proofs.Records.{live-says}
 use Rattle.cone.specs.Cone.{free}
 use Rattle.cone.proofs.GivenNumbers.{not-live-free, live-not-free}
 

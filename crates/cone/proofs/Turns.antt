@@ -12,7 +12,7 @@ use Rattle.table.specs.Table.{cellsOf, dim, face}
 use Rattle.cone.specs.Cone.{apexOf, coneOf, coneFace, coned}
 use Rattle.cone.specs.Record.{Stored}
 use Rattle.cone.specs.Parts.{overFace, Coneable, Ready}
-use Rattle.audit.proofs.Sizes.{live-says}
+use Rattle.table.proofs.Records.{live-says}
 use Rattle.cone.proofs.Acceptance.{Accepts, cone-accepted}
 use Rattle.cone.proofs.GivenNumbers.{free-inside, apex-is-free}
 use Rattle.cone.proofs.Sides.{used-side, used-below}

@@ -16,7 +16,7 @@ use Rattle.table.specs.declared.Verdict.the-variants.{Accepted, Refused}
 use Rattle.table.specs.declared.Named.{Named}
 use Rattle.table.specs.declared.Named.the-variants.{Cell, NoCell}
 use Rattle.audit.proofs.Grounds.{refused-first}
-use Rattle.audit.proofs.Sizes.{live-says}
+use Rattle.table.proofs.Records.{live-says}
 use Rattle.audit.proofs.Valid.{valid-is-sized, valid-is-sound}
 use Rattle.corner.specs.Corner.{cornerOf, ownGrounds, cornerAnswer}
 

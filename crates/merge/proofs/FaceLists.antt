@@ -15,8 +15,7 @@ use Rattle.table.specs.Table.{dim, face, facesOf, Live, Valid}
 use Rattle.table.specs.declared.Refusal.{Refusal}
 use Rattle.table.specs.declared.Refusal.the-variants.{FacesDiffer}
 use Rattle.table.specs.declared.Verdict.the-variants.{Accepted, Refused}
-use Rattle.audit.proofs.Records.{faces-at}
-use Rattle.audit.proofs.Sizes.{live-says}
+use Rattle.table.proofs.Records.{faces-at, live-says}
 use Rattle.audit.proofs.Valid.{valid-is-sound, valid-is-sized}
 use Rattle.merge.specs.Merge.{faceList, sameFaces, mergeVerdict}
 use Rattle.merge.proofs.Stores.{below-or-not}

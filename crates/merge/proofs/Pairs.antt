@@ -15,7 +15,7 @@ use Rattle.table.specs.declared.Refusal.the-variants.{NotLive, SameCell, Dimens
 use Rattle.table.specs.declared.Verdict.the-variants.{Accepted, Refused}
 use Rattle.audit.proofs.Records.{not-true-false}
 use Rattle.audit.proofs.Scans.{all-true, all-says}
-use Rattle.audit.proofs.Sizes.{live-true}
+use Rattle.table.proofs.Records.{live-true}
 use Rattle.merge.specs.Merge.{sameFaces}
 use Rattle.merge.specs.Writing.{pairGrounds, sameWords}
 

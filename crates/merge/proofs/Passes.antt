@@ -13,7 +13,7 @@ use Rattle.table.specs.Kind.{faces, width, freeMark, pick}
 use Rattle.table.specs.Table.{cellsOf, dim, face, facesOf}
 use Rattle.table.specs.Words.{tableOf}
 use Rattle.table.proofs.Words.{length-tableOf, cellsOf-tableOf, dim-tableOf, face-tableOf, table-by-records}
-use Rattle.audit.proofs.Records.{faces-at}
+use Rattle.table.proofs.Records.{faces-at}
 use Rattle.merge.specs.Rename.{renamed, identify}
 use Rattle.merge.specs.Merge.{merged}
 use Rattle.merge.specs.Writing.{written, sent, sentFaces}

@@ -17,7 +17,7 @@ use Rattle.table.specs.declared.Refusal.the-variants.{Length, Invalid}
 use Rattle.table.specs.declared.Verdict.{Verdict}
 use Rattle.table.specs.declared.Verdict.the-variants.{Accepted, Refused}
 use Rattle.audit.proofs.Scans.{all-true, all-says, and-left, and-right}
-use Rattle.audit.proofs.Sizes.{live-true}
+use Rattle.table.proofs.Records.{live-true}
 use Rattle.audit.proofs.Valid.{sound-is-valid}
 use Rattle.merge.specs.Merge.{sameFaces, mergeGrounds, mergeVerdict}
 use Rattle.merge.specs.Writing.{pairGrounds}

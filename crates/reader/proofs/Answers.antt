@@ -20,7 +20,8 @@ use Rattle.table.specs.declared.Verdict.{Verdict}
 use Rattle.table.specs.declared.Verdict.the-variants.{Accepted, Refused}
 use Rattle.counting.proofs.Counting.{true-or-false}
 use Rattle.audit.specs.Empty.{emptied, emptyLeaves}
-use Rattle.audit.proofs.Sizes.{sized-is-sized, sized-cells-is, no-cells, some-cells}
+use Rattle.audit.proofs.Sizes.{sized-is-sized, no-cells, some-cells}
+use Rattle.table.proofs.Records.{sized-cells-is}
 use Rattle.audit.proofs.Grounds.{accepted-none-applies}
 use Rattle.sketch.specs.Read.{contentsFit, numbersFit, described, readVerdict, readLeaves}
 use Rattle.sketch.proofs.Accepted.{says-accepted}

@@ -9,7 +9,8 @@ use lib.ListN.{length}
 use lib.IntN.{ℤ}
 use lib.Dec.{eqb}
 use Rattle.table.specs.Table.{cellsOf, sizedCells}
-use Rattle.audit.proofs.Sizes.{no-cells, some-cells, sized-is-sized, sized-cells-is}
+use Rattle.audit.proofs.Sizes.{no-cells, some-cells, sized-is-sized}
+use Rattle.table.proofs.Records.{sized-cells-is}
 use Rattle.reading.specs.Steps.{lengthsFit}
 
 module _ (t : List ℕ) (x y : List ℤ) (n : ℕ) (is : n ≡ sizedCells t) where

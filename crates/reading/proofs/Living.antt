@@ -12,7 +12,7 @@ use lib.Dec.{eqb, leb}
 use Rattle.table.specs.Kind.{top, used}
 use Rattle.table.specs.Table.{cellsOf, dim, face, live, Live, Valid}
 use Rattle.audit.proofs.Scans.{and-left, and-right, and-both}
-use Rattle.audit.proofs.Sizes.{live-true, live-says}
+use Rattle.table.proofs.Records.{live-says, live-true}
 use Rattle.audit.proofs.Places.{used-is}
 use Rattle.reading.specs.Boundary.{isCell}
 

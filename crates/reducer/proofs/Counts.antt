@@ -1,6 +1,6 @@
 -- The additions by dimension: none at first, one row's more a turn, and a bound that a count of 64 bits holds.
 -- What carries it: the sum over the cells, one cell more. Assumes nothing.
-use mathlib.Core.Path.{_≡_, refl, sym, ap, ap₂, subst, _∙_}
+use mathlib.Core.Path.{_≡_, refl, sym, ap, ap₂, _∙_}
 use mathlib.Core.Logic.{by-cases}
 use mathlib.Core.Bool.{Bool, true, false, _&&_}
 use mathlib.Core.List.{List}

@@ -1,14 +1,14 @@
 -- The height of a set: its largest member and one more, or 0 where it is empty. It is the measure of the additions to a row, since
 -- adding a set with the same largest member makes it fall. What carries it: a walk down from the end. Assumes nothing.
-use mathlib.Core.Path.{_≡_, refl, sym, ap, subst, _∙_}
+use mathlib.Core.Path.{_≡_, subst}
 use mathlib.Core.Bool.{Bool, true, false}
 use mathlib.Core.List.{List}
-use Prim.Native.Nat.{ℕ, zero, suc, _+_, _*_, _≤_, _<_}
+use Prim.Native.Nat.{ℕ, zero, suc, _*_, _≤_, _<_}
 use native.Mathlib.Omega.{arith}
 use lib.ListN.{length}
 use Rattle.homology.proofs.Marks.{by-mark, by-order, clash}
 use Rattle.bitset.specs.Bits.{bits, member, sumOf, IsGreatest}
-use Rattle.bitset.proofs.Marks.{true-member, false-member, length-sum}
+use Rattle.bitset.proofs.Marks.{true-member, false-member}
 use Rattle.bitset.proofs.Greatest.{sum-of-tops-empty}
 use Rattle.table.specs.Kind.{pick}
 

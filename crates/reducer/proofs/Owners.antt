@@ -1,9 +1,9 @@
 -- The owners of largest cells: they stay where the rows below stay, and a finished row owns its largest cell, where it has one.
 -- What carries it: a set has one largest member. Assumes nothing.
-use mathlib.Core.Path.{_≡_, refl, sym, ap, subst, _∙_}
+use mathlib.Core.Path.{_≡_, sym, ap, subst, _∙_}
 use mathlib.Core.Logic.{by-cases}
 use mathlib.Core.List.{List}
-use Prim.Native.Nat.{ℕ, suc, _+_, _*_, _≤_, _<_}
+use Prim.Native.Nat.{ℕ, suc, _<_}
 use native.Mathlib.Decide.{ℕ-discrete}
 use native.Mathlib.Omega.{arith}
 use lib.ListN.{length, getD, set, length-set}
@@ -14,7 +14,7 @@ use Rattle.bitset.proofs.Greatest.{greatest-unique}
 use Rattle.table.specs.Kind.{capacity, freeMark}
 use Rattle.rows.specs.Rows.{rowWidth, rowOf}
 use Rattle.reducer.specs.Rule.{LargestOf}
-use Rattle.reducer.specs.Work.{rowAt, RowKept, Bounds, Owned}
+use Rattle.reducer.specs.Work.{RowKept, Bounds, Owned}
 use Rattle.reducer.proofs.RowWords.{row-of}
 use Rattle.reducer.proofs.Boundaries.{of-largest}
 

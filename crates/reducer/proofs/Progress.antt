@@ -2,27 +2,25 @@
 -- What carries it: a row changes itself alone, and the rule for a row looks at lower rows alone. Assumes nothing.
 use mathlib.Core.Path.{_≡_, refl, sym, ap, subst, _∙_}
 use mathlib.Core.Logic.{by-cases}
-use mathlib.Core.Bool.{Bool, true, false, _&&_}
+use mathlib.Core.Bool.{Bool, false, _&&_}
 use mathlib.Core.List.{List}
-use Prim.Native.Nat.{ℕ, zero, suc, _+_, _*_, _≤_, _<_}
+use Prim.Native.Nat.{ℕ, suc, _+_, _≤_, _<_}
 use native.Mathlib.Decide.{ℕ-discrete}
 use native.Mathlib.Numerals.{add-one}
 use native.Mathlib.Omega.{arith}
 use borrow.Author.Tests.{lt-leb}
 use lib.Dec.{ltb}
-use lib.ListN.{length, getD, set, replicate}
-use Rattle.homology.specs.Holes.{boundary}
+use lib.ListN.{getD, set, replicate}
 use Rattle.homology.proofs.Marks.{clash, &&-off}
-use Rattle.bitset.specs.Bits.{member, IsGreatest}
-use Rattle.bitset.proofs.Marks.{mark-zeros}
-use Rattle.table.specs.Kind.{capacity, top, freeMark}
-use Rattle.table.specs.Table.{cellsOf, dim, live, Live, Valid}
+use Rattle.bitset.specs.Bits.{member}
+use Rattle.table.specs.Kind.{capacity, top}
+use Rattle.table.specs.Table.{cellsOf, dim, live, Live}
 use Rattle.complex.specs.Cells.{cells}
-use Rattle.complex.proofs.Living.{live-says}
-use Rattle.rows.specs.Rows.{rowWidth, rowOf, evidenceWords}
+use Rattle.table.proofs.Records.{live-says}
+use Rattle.rows.specs.Rows.{rowWidth, rowOf}
 use Rattle.rows.proofs.Members.{member-zeros}
 use Rattle.rows.proofs.Boundaries.{boundary-of-empty}
-use Rattle.reducer.specs.Rule.{Additions, LargestOf, RowByRule, ByRule, additionsIn, alone, emptyRow}
+use Rattle.reducer.specs.Rule.{Additions, LargestOf, RowByRule, additionsIn, alone, emptyRow}
 use Rattle.reducer.specs.Reduce.{counts, Reduction}
 use Rattle.reducer.specs.Work.{Owned, Roomy, Ready, Finished, Fresh}
 use Rattle.reducer.proofs.RowWords.{row-of}

@@ -3,17 +3,16 @@
 -- Assumes nothing.
 use mathlib.Core.Path.{_≡_, refl, sym, ap, ap₂, subst, _∙_}
 use mathlib.Core.List.{List}
-use Prim.Native.Nat.{ℕ, zero, suc, _+_, _*_, _≤_, _<_}
-use native.Mathlib.Nat.{mul-le-mul-right}
+use Prim.Native.Nat.{ℕ, suc, _+_, _*_, _≤_, _<_}
 use native.Mathlib.Omega.{arith}
 use lib.ListN.{length, getD, set, length-set}
 use Rattle.bitset.specs.Bits.{bits, mark, sumOf, IsGreatest}
 use Rattle.bitset.proofs.Marks.{length-sum}
-use Rattle.table.specs.Kind.{capacity, freeMark}
-use Rattle.table.specs.Table.{cellsOf, Live, Valid}
+use Rattle.table.specs.Kind.{freeMark}
+use Rattle.table.specs.Table.{cellsOf, Valid}
 use Rattle.rows.specs.Rows.{rowWidth, rowOf, evidenceWords}
 use Rattle.reducer.specs.Rule.{Additions, stop, add, LargestOf, alone}
-use Rattle.reducer.specs.Work.{rowAt, RowAdded, RowKept, Owned, Bounds, Begun, Roomy, Finished}
+use Rattle.reducer.specs.Work.{RowAdded, RowKept, Owned, Bounds, Begun, Roomy, Finished}
 use Rattle.reducer.proofs.RowWords.{row-of, row-ends, length-row}
 use Rattle.reducer.proofs.Owners.{owned-stays, owned-more, free-alone, owned-kept}
 use Rattle.reducer.proofs.Heights.{height, height-inside, height-falls}
@@ -99,9 +98,6 @@ module _ (t : List ℕ) (c : ℕ) (inside : c < cellsOf t) (ev₁ x ev kept owne
 
     -- its largest cell has an owner, whose row is added
     module _ (taken : getD owner m 0 ≡ freeMark → ⊥) where
-      a : ℕ
-      a = getD owner m 0
-
       pub owner-below : getD owner m 0 < c
       owner-below = so .owned .earlier m (cell-place m top) taken
 

@@ -1,12 +1,12 @@
 -- One row in the code's own terms, with the width in a local: what each call asks, and what it leaves of the invariant.
 -- What carries it: the laws of RowAdditions.antt at the table's width. Assumes nothing.
-use mathlib.Core.Path.{_≡_, refl, sym, ap, subst, _∙_}
+use mathlib.Core.Path.{_≡_, sym, ap, subst, _∙_}
 use mathlib.Core.List.{List}
-use Prim.Native.Nat.{ℕ, suc, _+_, _-_, _*_, _^_, _≤_, _<_}
+use Prim.Native.Nat.{ℕ, _+_, _-_, _*_, _^_, _≤_, _<_}
 use native.Mathlib.Omega.{arith}
 use lib.ListN.{length, getD, set, take, drop}
-use Rattle.bitset.specs.Bits.{bits, mark, sumOf, IsGreatest}
-use Rattle.table.specs.Kind.{capacity, freeMark}
+use Rattle.bitset.specs.Bits.{mark, sumOf, IsGreatest}
+use Rattle.table.specs.Kind.{freeMark}
 use Rattle.table.specs.Table.{Live, Valid}
 use Rattle.rows.specs.Rows.{rowWidth, rowOf}
 use Rattle.reducer.specs.Rule.{alone}

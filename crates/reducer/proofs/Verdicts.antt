@@ -9,17 +9,18 @@ use native.Mathlib.Omega.{arith}
 use borrow.Author.Tests.{eq-eqb, ne-eqb, eqb-true, leb-true}
 use lib.Dec.{eqb, leb}
 use lib.ListN.{length, replicate}
-use Rattle.homology.proofs.Marks.{by-mark, clash, both, left-on, right-on, not-on, &&-off}
+use Rattle.homology.proofs.Marks.{by-mark, both, left-on, right-on, &&-off}
 use Rattle.bitset.specs.Bits.{wordsFor}
 use Rattle.table.specs.Kind.{capacity, top, width, pick}
-use Rattle.table.specs.Table.{cellsOf, sizedCells, Sized, Valid}
+use Rattle.table.specs.Table.{cellsOf, sizedCells, Valid}
 use Rattle.table.specs.Audit.{sized, sound, auditGrounds}
 use Rattle.table.specs.Calls.{verdict}
 use Rattle.table.specs.declared.Refusal.{Refusal}
 use Rattle.table.specs.declared.Refusal.the-variants.{Length, Invalid}
 use Rattle.table.specs.declared.Verdict.{Verdict}
 use Rattle.table.specs.declared.Verdict.the-variants.{Accepted, Refused}
-use Rattle.audit.proofs.Sizes.{no-cells, some-cells, sized-is-sized, sized-cells-is}
+use Rattle.audit.proofs.Sizes.{no-cells, some-cells, sized-is-sized}
+use Rattle.table.proofs.Records.{sized-cells-is}
 use Rattle.audit.proofs.Valid.{sound-is-valid}
 use Rattle.rows.specs.Rows.{evidenceWords}
 use Rattle.reducer.specs.Reduce.{reduceVerdict, Reduces, Reduction}

@@ -2,12 +2,11 @@
 -- Cited by the contracts of private functions alone, beside the definitions of Rule.antt; nothing here is proved.
 use mathlib.Core.Path.{_≡_}
 use mathlib.Core.List.{List}
-use Prim.Native.Nat.{ℕ, suc, _+_, _*_, _<_, _≤_}
+use Prim.Native.Nat.{ℕ, suc, _*_, _<_, _≤_}
 use lib.ListN.{length, getD, take, drop}
 use Rattle.homology.specs.Holes.{boundary}
 use Rattle.bitset.specs.Bits.{bits, member, sumOf, IsGreatest}
 use Rattle.table.specs.Kind.{capacity, freeMark}
-use Rattle.table.specs.Table.{cellsOf, Live, Valid}
 use Rattle.complex.specs.Cells.{cells}
 use Rattle.rows.specs.Rows.{rowWidth, evidenceWords, rowOf}
 use Rattle.reducer.specs.Rule.{Additions, LargestOf, alone, emptyRow}

@@ -1,14 +1,10 @@
 // The reducer: makes evidence for a hole count. It keeps the boundaries of finished rows, each at its largest cell, beside the number
 // of the row; taking boundaries anew for each addition would cost two orders of magnitude on the worst table. It asks no heap.
 ghost use mathlib.Core.Path.{_≡_};
-ghost use mathlib.Core.List.{List};
 ghost use Prim.Native.Nat.{ℕ, _+_, _*_, _≤_, _<_};
-ghost use lib.ListN.{length, getD, replicate};
-ghost use Rattle.bitset.specs.Bits.{bits};
-ghost use Rattle.table.specs.Kind.{capacity, freeMark};
+ghost use lib.ListN.{length, getD};
 ghost use Rattle.table.specs.Table.{cellsOf, Live, Valid};
-ghost use Rattle.rows.specs.Rows.{rowWidth, rowOf, evidenceWords};
-ghost use Rattle.reducer.specs.Rule.{emptyRow};
+ghost use Rattle.rows.specs.Rows.{rowWidth, evidenceWords};
 ghost use Rattle.reducer.specs.Reduce.{Reduces, Reduction, reduceVerdict};
 ghost use Rattle.reducer.specs.Work.{RowAdded, RowKept, Roomy, Ready, Begun, Finished, Fresh, Cleared};
 use bitset::Top;

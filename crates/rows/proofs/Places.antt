@@ -15,27 +15,9 @@ use Rattle.bitset.specs.Bits.{bits, member, toggled}
 use Rattle.table.specs.Kind.{capacity, faces, width, used}
 use Rattle.table.specs.Table.{cellsOf, dim, face, facesOf, Live, Sized, sizedCells, Valid}
 use Rattle.complex.specs.Cells.{oddFace}
-use Rattle.complex.proofs.Living.{live-says}
+use Rattle.table.proofs.Records.{live-says}
 use Rattle.rows.specs.Rows.{FacesAdded, boundaryWords}
 use Rattle.rows.proofs.Members.{member-toggled}
-
--- the cells that the table's shape counts
-pub shape-cells : (t : List ℕ) → Sized t → sizedCells t ≡ cellsOf t
-shape-cells t s = simp (eq-eqb (length t % width) 0 (omega (arith, s .whole)), le-leb (cellsOf t) capacity (s .room))
-
-seven : (t : List ℕ) (c j : ℕ) → j < faces → getD (facesOf t c) j 0 ≡ face t c j
-seven t c zero h = refl
-seven t c (suc zero) h = refl
-seven t c (suc (suc zero)) h = refl
-seven t c (suc (suc (suc zero))) h = refl
-seven t c (suc (suc (suc (suc zero)))) h = refl
-seven t c (suc (suc (suc (suc (suc zero))))) h = refl
-seven t c (suc (suc (suc (suc (suc (suc zero)))))) h = refl
-seven t c (suc (suc (suc (suc (suc (suc (suc j))))))) h = absurd (omega arith)
-
--- the seven words by value are the record's faces
-pub face-by-value : (t : List ℕ) (c : ℕ) (fs : List ℕ) → fs ≡ facesOf t c → (j : ℕ) → j < faces → getD fs j 0 ≡ face t c j
-face-by-value t c fs e j h = ap (λ (l : List ℕ). getD l j 0) e ∙ seven t c j h
 
 -- a used face has its word in a set of the largest table's width
 pub face-fits : (t : List ℕ) → Valid t → (c j f : ℕ) → Live t c → j < used (dim t c) → f ≡ face t c j → f / bits < boundaryWords

@@ -17,7 +17,7 @@ use Rattle.bitset.specs.Bits.{bits, member, sumOf}
 use Rattle.bitset.proofs.Marks.{mark-of-zero-word, false-member}
 use Rattle.table.specs.Table.{cellsOf, live, Sized}
 use Rattle.complex.specs.Cells.{cells}
-use Rattle.complex.proofs.Living.{live-true}
+use Rattle.table.proofs.Records.{live-true}
 use Rattle.rows.specs.Rows.{rowWidth, boundaryWords, evidenceWords, rowOf, rows, RowLive}
 use Rattle.rows.proofs.Members.{member-sum}
 use Rattle.rows.proofs.Chunks.{chunk, chunk-ends, length-chunk, getD-chunk, getD-chunk-past, chunk-words, Written, all-written, others-stay}

@@ -12,7 +12,7 @@ use Rattle.counting.specs.Counting.{someHas}
 use Rattle.counting.proofs.Counting.{below-or-not, true-or-false, someHas-at, someHas-each}
 use Rattle.table.specs.Kind.{top, faces, pick}
 use Rattle.table.specs.Table.{cellsOf, dim, live}
-use Rattle.audit.proofs.Sizes.{live-true, live-says}
+use Rattle.table.proofs.Records.{live-says, live-true}
 use Rattle.audit.proofs.Records.{not-true-false}
 use Rattle.sheet.specs.Sheet.{largestDim}
 use Rattle.sheet.specs.Sides.{levelsBelow}

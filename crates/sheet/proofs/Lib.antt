@@ -3,5 +3,5 @@ pub mod Over
 pub mod Sheets
 pub mod Wings
 pub mod Counters
-pub mod Turns
+pub mod Passing
 pub mod Answers

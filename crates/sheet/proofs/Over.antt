@@ -10,7 +10,7 @@ use Rattle.counting.proofs.Counting.{someHas-at, someHas-one}
 use Rattle.table.specs.Kind.{used}
 use Rattle.table.specs.Table.{cellsOf, dim, face, Live, live, Valid}
 use Rattle.audit.proofs.Scans.{and-right, and-both}
-use Rattle.audit.proofs.Sizes.{live-says}
+use Rattle.table.proofs.Records.{live-says}
 use Rattle.audit.proofs.Places.{used-says}
 use Rattle.sheet.specs.Sheet.{hasFace, covered}
 

@@ -14,7 +14,7 @@ use Rattle.counting.proofs.Counting.{someHas-at}
 use Rattle.table.specs.Table.{cellsOf, dim, face, Live, live, Valid}
 use Rattle.table.specs.Audit.{all}
 use Rattle.audit.proofs.Scans.{and-left, and-right, and-both, all-true, all-says}
-use Rattle.audit.proofs.Sizes.{live-true, live-says}
+use Rattle.table.proofs.Records.{live-says, live-true}
 use Rattle.audit.proofs.Records.{not-true-false}
 use Rattle.sheet.specs.Sheet.{Reached, itself, through, wings, IsSheet, topDim, covered, isSheet}
 use Rattle.sheet.proofs.Dimensions.{largest-bounds, largest-attained}

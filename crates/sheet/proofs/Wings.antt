@@ -12,7 +12,7 @@ use Rattle.counting.specs.Counting.{howMany, someHas}
 use Rattle.counting.proofs.Counting.{true-or-false, howMany-strict, someHas-each, someHas-one}
 use Rattle.table.specs.Kind.{pick}
 use Rattle.table.specs.Table.{cellsOf, dim, live, Valid}
-use Rattle.audit.proofs.Sizes.{live-says}
+use Rattle.table.proofs.Records.{live-says}
 use Rattle.sheet.specs.Sheet.{hasFace, wings, covered}
 use Rattle.sheet.specs.Sides.{sidesBelow}
 use Rattle.sheet.proofs.Over.{side-live, side-dim, over-by, over-has, covered-over, over-covered}

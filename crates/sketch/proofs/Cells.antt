@@ -9,7 +9,7 @@ use Rattle.table.specs.Table.{cellsOf, dim, face, Live, live}
 use Rattle.counting.specs.Counting.{nth}
 use Rattle.counting.proofs.Counting.{nth-has}
 use Rattle.audit.proofs.Scans.{and-left, and-right, and-both}
-use Rattle.audit.proofs.Sizes.{live-true, live-says}
+use Rattle.table.proofs.Records.{live-says, live-true}
 use Rattle.sketch.specs.Form.{dimensions}
 use Rattle.sketch.specs.Written.{isCell, countOf, cellBytes, bodyOf, contentsOf, fileOf}
 use Rattle.sketch.proofs.Pieces.{pieces-cong}

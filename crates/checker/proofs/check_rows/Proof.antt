@@ -7,7 +7,7 @@ use native.Mathlib.Omega.{arith}
 use borrow.Author.Needs.{needs}
 use Rattle.table.specs.Kind.{capacity, top}
 use Rattle.table.specs.Table.{cellsOf}
-use Rattle.rows.proofs.Places.{shape-cells}
+use Rattle.table.proofs.Records.{sized-cells-is}
 use Rattle.checker.proofs.Walk.{Walked, walked-same, walk-none, walk-breaks-a, walk-breaks-b, walk-closed, walk-bounds, bounds-level, counter-small, walk-accepts, walk-meets, walk-counts}
 use Rattle.checker.proofs.Answers.{refused-checks, accepted-checks, counts-fit, differences-are-holes}
 use Rattle.checker.proofs.check_rows.Statement.{statement}
@@ -25,7 +25,7 @@ of-requires c κs = search needs
 
 -- the cells that the code goes through are the table's
 n-is : (c : tie.After-of Inv-loop μ-loop) → c .of .result .cells ≡ cellsOf (c .before .before .before .args .t .now)
-n-is c = c .of .ensures ∙ shape-cells _ (c .before .before .before .pre .0 .sized)
+n-is c = c .of .ensures ∙ sized-cells-is _ (c .before .before .before .pre .0 .sized)
 
 inside : (c : tie.In-loop Inv-loop μ-loop) → c .before .loop .c < cellsOf (c .before .before .before .before .before .args .t .now)
 inside c = omega (arith, c .loop-test .taken, n-is (c .before .before))

@@ -8,7 +8,7 @@ use native.Mathlib.Omega.{arith}
 use borrow.Author.Needs.{needs}
 use Rattle.table.specs.Kind.{top}
 use Rattle.table.specs.Table.{cellsOf}
-use Rattle.rows.proofs.Places.{shape-cells}
+use Rattle.table.proofs.Records.{sized-cells-is}
 use Rattle.checker.proofs.Tallies.{Tally, isCellAt}
 use Rattle.checker.proofs.Tallies.{tally-none, tally-small, cell-counted, free-skipped, cells-listed}
 use Rattle.checker.proofs.count_cells.Statement.{statement}
@@ -25,7 +25,7 @@ of-requires c κs = search needs
 
 -- the cells that the code goes through are the table's
 n-is : (c : tie.After-of Inv-loop μ-loop) → c .of .result .cells ≡ cellsOf (c .before .before .args .t .now)
-n-is c = c .of .ensures ∙ shape-cells _ (c .before .before .pre .sized)
+n-is c = c .of .ensures ∙ sized-cells-is _ (c .before .before .pre .sized)
 
 loop-holds : tie.Need-loop-holds Inv-loop μ-loop
 loop-holds c = (search needs, tally-none (top + 1) _)

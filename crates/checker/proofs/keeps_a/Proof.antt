@@ -6,7 +6,7 @@ use borrow.Author.Needs.{needs}
 use lib.ListN.{length, take, drop}
 use Rattle.bitset.specs.Bits.{wordsFor}
 use Rattle.rows.specs.Rows.{rowWidth, rowOf}
-use Rattle.rows.proofs.Places.{shape-cells}
+use Rattle.table.proofs.Records.{sized-cells-is}
 use Rattle.rows.proofs.RowWords.{row-width-fits, row-ends, length-rowOf}
 use Rattle.checker.specs.Row.{rowKeeps}
 use Rattle.checker.proofs.Rules.{part-is-row, keepsA-of-words}
@@ -21,7 +21,7 @@ words-for-requires c κs = search needs
 
 -- the width that the code goes by is the rows'
 width-is : (c : tie.After-words-for) → c .words-for .result ≡ rowWidth (c .before .before .before .before .args .t .now)
-width-is c = c .words-for .ensures ∙ ap wordsFor (c .before .of .ensures ∙ shape-cells _ (c .before .before .before .before .pre .0 .sized))
+width-is c = c .words-for .ensures ∙ ap wordsFor (c .before .of .ensures ∙ sized-cells-is _ (c .before .before .before .before .pre .0 .sized))
 
 -- the row lies inside the evidence
 row-here : (c : tie.After-words-for)

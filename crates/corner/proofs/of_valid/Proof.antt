@@ -5,7 +5,7 @@ use Prim.Native.Nat.{_≤_, _<_}
 use borrow.Author.Needs.{needs}
 use Rattle.table.specs.Table.{dim, Live}
 use Rattle.table.specs.declared.Named.the-variants.{Cell}
-use Rattle.audit.proofs.Sizes.{sized-cells-is}
+use Rattle.table.proofs.Records.{sized-cells-is}
 use Rattle.corner.proofs.CornerAnswers.{outside-refused, free-refused, past-refused, corner-given}
 use Rattle.corner.proofs.of_valid.Statement.{statement}
 use Rattle.corner.proofs.of_valid.Tie as tie

@@ -1,6 +1,6 @@
 -- `reader::contents_fit` meets its contract. The invariant: N is the table's, every offset below p is where its body starts, and
 -- `start` is where body p starts. The measure: the bodies left. Assumes nothing.
-use mathlib.Core.Path.{_≡_, sym, _∙_}
+use mathlib.Core.Path.{_≡_, sym}
 use Prim.Native.Nat.{ℕ, _+_, _*_, _-_, _≤_, _<_}
 use borrow.Author.Count.{below-none, below-more}
 use borrow.Author.Needs.{needs}
@@ -34,12 +34,13 @@ cast-if2 : tie.Need-cast-if2 Inv-loop μ-loop
 cast-if2 c = search needs
 
 returns-2 : tie.Need-returns-2 Inv-loop μ-loop
-returns-2 c = unfit-cells _ _ (c .before .two-at .result) (c .before .two-at .ensures) (c .if2 .taken)
+returns-2 c =
+    unfit-cells _ _ (c .before .two-at .result) (c .before .two-at .ensures) (λ e. omega (arith, e, c .if2 .taken))
 
 loop-holds : tie.Need-loop-holds Inv-loop μ-loop
 loop-holds c = (
   search needs,
-  sym (c .before .two-at .ensures) ∙ c .if2 .left,
+  omega (arith, c .before .two-at .ensures, c .if2 .left),
   search needs,
   sym (bodyStart-zero (countIn (c .before .before .before .before .args .file .now))),
   below-none _,
@@ -50,8 +51,10 @@ offset-in-requires c κs = omega arith
 
 returns-3 : tie.Need-returns-3 Inv-loop μ-loop
 returns-3 c =
-    let l = c .before .before .before .loop in
-    unfit-offset _ _ (l .p) (c .before .offset-in .result) (l .start) (c .before .before .loop-test .taken) (c .before .offset-in .ensures) (l .inv .3) (c .if3 .taken)
+    let o = c .before in
+    let l = o .before .before .loop in
+    unfit-offset _ _ (l .p) (o .offset-in .result) (l .start) (o .before .loop-test .taken) (o .offset-in .ensures) (l .inv .3)
+    (λ e. omega (arith, e, c .if3 .taken))
 
 count-in-requires : tie.Need-count-in-requires Inv-loop μ-loop
 count-in-requires c κs = omega arith
@@ -75,19 +78,30 @@ loop-again c =
       omega arith,
       l .inv .1,
       omega arith,
-      start-more _ (l .p) (l .start) (c .before .count-in .result) (c .body-size .result) (l .inv .3) (c .before .count-in .ensures) (c .body-size .ensures .0),
-      below-more _ (l .p) (l .inv .4) (sym (o .offset-in .ensures) ∙ c .before .before .if3 .left ∙ l .inv .3),
+      start-more _ (l .p) (l .start) (c .before .count-in .result) (c .body-size .result) (l .inv .3)
+          (c .before .count-in .ensures)
+          (c .body-size .ensures .0),
+      below-more _ (l .p) (l .inv .4) (omega (arith, o .offset-in .ensures, c .before .before .if3 .left, l .inv .3)),
     )
+
+-- the file that was asked about, seen from the loop's end
+abbrev asked : tie.After-loop Inv-loop μ-loop → tie.Start Inv-loop μ-loop
+asked c = c .before .before .before .before .before .before
 
 returns-4 : tie.Need-returns-4 Inv-loop μ-loop
 returns-4 c =
     let l = c .before .before .loop in
-    unfit-length _ (c .before .before .before .before .before .before .before .args .file .now) (l .p) (l .start) (l .inv .0) (c .before .loop-test .left) (l .inv .3) (c .if4 .taken)
+    unfit-length _ (asked (c .before) .args .file .now) (l .p) (l .start) (l .inv .0) (c .before .loop-test .left) (l .inv .3)
+    (λ e. omega (arith, e, c .if4 .taken))
 
 returns-5 : tie.Need-returns-5 Inv-loop μ-loop
 returns-5 c =
     let l = c .before .before .loop in
-    fit-all _ (c .before .before .before .before .before .before .before .args .file .now) (l .p) (l .start) (l .inv .0) (c .before .loop-test .left) (omega arith) (l .inv .1) (l .inv .4) (l .inv .3) (c .if4 .left)
+    fit-all _ (asked (c .before) .args .file .now) (l .p) (l .start) (l .inv .0) (c .before .loop-test .left) (omega arith)
+    (l .inv .1)
+    (l .inv .4)
+    (l .inv .3)
+    (omega (arith, c .if4 .left))
 
 pub contents-fit-spec : {M : Type 1} → statement M
 contents-fit-spec =

@@ -72,15 +72,31 @@ loop-again c =
     let b = c .before .before .before .before .before .before in
     let a = b .args in
     let room = room-kept (a .t .now) (a .file .now) (a .c) (a .p) (a .at) (b .pre .0) in
-    let s = stored-more (set (a .t .now) (a .c * width) (a .p)) (a .file .now) (a .c) (a .p) (a .at) room (l .t) (l .j) (c .two-at .result) (omega arith) (l .inv .2) (c .two-at .ensures) in
+    let s =
+    stored-more (set (a .t .now) (a .c * width) (a .p)) (a .file .now) (a .c) (a .p) (a .at) room (l .t) (l .j) (c .two-at .result)
+    (omega arith)
+    (l .inv .2)
+    (c .two-at .ensures) in
     (omega arith, s .size, s)
 
-stored : (c : tie.After-loop Inv-loop μ-loop) → Stored (c .before .before .before .before .before .args .t .now) (c .before .before .before .before .before .args .file .now) (c .before .before .before .before .before .args .c) (c .before .before .before .before .before .args .p) (c .before .before .before .before .before .args .at) (used (c .before .before .before .before .before .args .p)) (c .before .loop .t)
+-- where the function starts, seen from the loop's end
+abbrev asked : tie.After-loop Inv-loop μ-loop → tie.Start Inv-loop μ-loop
+asked c = c .before .before .before .before .before
+
+stored :
+    (c : tie.After-loop Inv-loop μ-loop) →
+    Stored (asked c .args .t .now) (asked c .args .file .now) (asked c .args .c) (asked c .args .p) (asked c .args .at)
+    (used (asked c .args .p))
+    (c .before .loop .t)
 stored c =
-    let b = c .before .before .before .before .before in
+    let b = asked c in
     let a = b .args in
     let l = c .before .loop in
-    stored-all (a .t .now) (a .file .now) (a .c) (a .p) (a .at) (b .pre .0) (l .t) (l .j) (c .before .before .used .result) (l .inv .0) (c .loop-test .left) (c .before .before .used .ensures .0) (l .inv .2)
+    let u = c .before .before .used in
+    stored-all (a .t .now) (a .file .now) (a .c) (a .p) (a .at) (b .pre .0) (l .t) (l .j) (u .result) (l .inv .0)
+    (c .loop-test .left)
+    (u .ensures .0)
+    (l .inv .2)
 
 same-length : tie.Need-same-length Inv-loop μ-loop
 same-length c = stored c .size

@@ -42,7 +42,10 @@ same-length c =
 returns : tie.Need-returns Inv-loop μ-loop
 returns c =
     let k = c .before .before .before in
-    (numbers-refused _ _ (k .before .before .before .loop .p) (k .before .before .loop-test .taken) (sym (not-true _ (c .if1 .taken)) ∙ k .take-body .ensures .fits), λ e. absurd (false≢true e))
+    let i = k .before .before in (
+      numbers-refused _ _ (i .before .loop .p) (i .loop-test .taken) (sym (not-true _ (c .if1 .taken)) ∙ k .take-body .ensures .fits),
+      λ e. absurd (false≢true e),
+    )
 
 add-p : tie.Need-add-p Inv-loop μ-loop
 add-p c = omega arith
@@ -63,8 +66,12 @@ loop-again c =
 same-length-2 : tie.Need-same-length-2 Inv-loop μ-loop
 same-length-2 c = search needs
 
+-- where the function starts, seen from the loop's end
+abbrev asked : tie.After-loop Inv-loop μ-loop → tie.Start Inv-loop μ-loop
+asked c = c .before .before .before .before
+
 -- every body was taken in, so all numbers are in order
-passed : (c : tie.After-loop Inv-loop μ-loop) → true ≡ numbersFit (c .before .before .before .before .args .n) (c .before .before .before .before .args .file .now)
+passed : (c : tie.After-loop Inv-loop μ-loop) → true ≡ numbersFit (asked c .args .n) (asked c .args .file .now)
 passed c = numbers-passed _ _ (λ p h. c .before .loop .inv .2 p (omega arith))
 
 returns-2 : tie.Need-returns-2 Inv-loop μ-loop

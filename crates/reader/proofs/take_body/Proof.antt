@@ -75,7 +75,7 @@ returns-2 c =
     let a = c .before .before in
     let l = a .before .before .loop in
     body-refused _ _ _ _ (l .i) _ (a .before .loop-test .taken) (a .before .before .before .before .before .count-in .ensures)
-    (refused-high _ _ _ _ _ _ _ (l .inv .2) _ (a .two-at .ensures) (c .if2 .taken))
+    (refused-high _ _ _ _ _ _ _ (l .inv .2) _ (a .two-at .ensures) (omega (arith, c .if2 .taken)))
 
 mul-if3 : tie.Need-mul-if3 Inv-loop μ-loop
 mul-if3 c = omega arith
@@ -95,7 +95,8 @@ returns-3 c =
     let a = e .before .before in
     let l = a .before .before .loop in
     body-refused _ _ _ _ (l .i) _ (a .before .loop-test .taken) (a .before .before .before .before .before .count-in .ensures)
-    (refused-met _ _ _ _ _ _ _ (l .inv .2) _ (a .two-at .ensures) (e .before .if1 .left) (e .if2 .left) (c .if3 .taken))
+    (refused-met _ _ _ _ _ _ _ (l .inv .2) _ (a .two-at .ensures) (e .before .if1 .left) (omega (arith, e .if2 .left))
+    (λ z. omega (arith, z, c .if3 .taken)))
 
 store-requires : tie.Need-store-requires Inv-loop μ-loop
 store-requires c κs =
@@ -126,7 +127,12 @@ loop-again c =
     let l = i .before .loop in (
       omega arith,
       k .store .kept .0 ∙ l .inv .1,
-      going-more _ _ _ (l .t) (l .at) (l .low) (l .i) (l .inv .2) (a .two-at .result) _ _ (asked i .pre .0) (a .two-at .ensures) (e .before .if1 .left) (e .if2 .left) (k .before .before .if3 .left) (i .before .before .before .record-size .ensures .0) (k .store .ensures),
+      going-more _ _ _ (l .t) (l .at) (l .low) (l .i) (l .inv .2) (a .two-at .result) _ _ (asked i .pre .0) (a .two-at .ensures)
+          (e .before .if1 .left)
+          (omega (arith, e .if2 .left))
+          (omega (arith, k .before .before .if3 .left))
+          (i .before .before .before .record-size .ensures .0)
+          (k .store .ensures),
     )
 
 same-length-4 : tie.Need-same-length-4 Inv-loop μ-loop

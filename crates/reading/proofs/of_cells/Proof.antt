@@ -3,7 +3,7 @@ use mathlib.Core.Path.{sym, ap, _∙_}
 use Prim.Native.Nat.{ℕ, _+_}
 use borrow.Author.Tests.{not-true, not-false}
 use borrow.Author.Needs.{needs}
-use Rattle.audit.proofs.Sizes.{live-true}
+use Rattle.table.proofs.Records.{live-true}
 use Rattle.reading.proofs.Registers.{back, back-is}
 use Rattle.reading.proofs.Answers.{first-dead, second-dead, dimensions-differ, sum-answered}
 use Rattle.reading.proofs.of_cells.Statement.{statement}

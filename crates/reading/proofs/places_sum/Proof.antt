@@ -8,7 +8,7 @@ use borrow.Author.Needs.{needs}
 use lib.ListN.{getD}
 use mir.Syntax.{w64}
 use mir.Val.{toZ}
-use Rattle.audit.proofs.Records.{faces-at}
+use Rattle.table.proofs.Records.{faces-at}
 use Rattle.table.specs.Kind.{faces, used}
 use Rattle.table.specs.Table.{face}
 use Rattle.reading.specs.Sums.{sumTo}

@@ -2,14 +2,12 @@
 -- The measure: the words left. Assumes nothing.
 use borrow.Author.Needs.{needs}
 use mathlib.Core.Path.{_≡_}
-use Prim.Native.Nat.{_≤_, _<_, _-_, _+_, _*_}
+use Prim.Native.Nat.{_≤_, _-_, _+_}
 use native.Mathlib.Omega.{arith}
 use lib.ListN.{length, length-set}
 use Rattle.reducer.proofs.RowWords.{Written, sumWord, written-none, sum-more, sum-all, row-ends}
 use Rattle.reducer.proofs.add_row.Statement.{statement}
 use Rattle.reducer.proofs.add_row.Tie as tie
-use Rattle.reducer.proofs.add_row.Reads as reads
-use Rattle.reducer.proofs.add_row.Lts as lts
 
 abbrev Inv-loop : tie.InvT-loop
 Inv-loop evidence₀ c a w to from k₀ evidence k =
@@ -18,72 +16,55 @@ Inv-loop evidence₀ c a w to from k₀ evidence k =
 abbrev μ-loop : tie.MeasureT-loop
 μ-loop evidence₀ c a w to from k₀ evidence k = w - k
 
--- src/lib.rt:31:14
 mul-to : tie.Need-mul-to Inv-loop μ-loop
 mul-to c = search needs
 
--- src/lib.rt:32:16
 mul-from : tie.Need-mul-from Inv-loop μ-loop
 mul-from c = omega (arith, row-ends (c .args .a) (c .args .c) (c .args .w) (c .pre .0))
 
--- src/lib.rt:34:5
 loop-holds : tie.Need-loop-holds Inv-loop μ-loop
 loop-holds c = (search needs, row-ends (c .args .a) (c .args .c) (c .args .w) (c .pre .0), search needs, written-none _ _ _)
 
--- src/lib.rt:35:37
 add-evidence : tie.Need-add-evidence Inv-loop μ-loop
 add-evidence c = search needs
 
--- src/lib.rt:35:28
 mul-evidence : tie.Need-mul-evidence Inv-loop μ-loop
 mul-evidence c = search needs
 
--- src/lib.rt:35:28
 slice-read-evidence : tie.Need-slice-read-evidence Inv-loop μ-loop
 slice-read-evidence c = search needs
 
--- src/lib.rt:35:56
 add-evidence-2 : tie.Need-add-evidence-2 Inv-loop μ-loop
 add-evidence-2 c = search needs
 
--- src/lib.rt:35:47
 mul-evidence-2 : tie.Need-mul-evidence-2 Inv-loop μ-loop
 mul-evidence-2 c = search needs
 
--- src/lib.rt:35:47
 slice-read-evidence-2 : tie.Need-slice-read-evidence-2 Inv-loop μ-loop
 slice-read-evidence-2 c = search needs
 
--- src/lib.rt:35:18
 add-evidence-3 : tie.Need-add-evidence-3 Inv-loop μ-loop
 add-evidence-3 c = search needs
 
--- src/lib.rt:35:9
 mul-evidence-3 : tie.Need-mul-evidence-3 Inv-loop μ-loop
 mul-evidence-3 c = search needs
 
--- src/lib.rt:35:9
 slice-write-evidence : tie.Need-slice-write-evidence Inv-loop μ-loop
 slice-write-evidence c = search needs
 
--- src/lib.rt:36:9
 add-k : tie.Need-add-k Inv-loop μ-loop
 add-k c = search needs
 
--- src/lib.rt:34:5
 loop-less : tie.Need-loop-less Inv-loop μ-loop
 loop-less c = search needs
 
--- src/lib.rt:34:5
 loop-again : tie.Need-loop-again Inv-loop μ-loop
 loop-again c = let l = c .before .before .before .loop in
     (search needs, l .inv .1, simp length-set (l .inv .2), sum-more _ _ (l .k) _ (l .evidence) (omega arith) (omega arith) (l .inv .3))
 
--- src/lib.rt:26:1
 same-length : tie.Need-same-length Inv-loop μ-loop
 same-length c = search needs
 
--- src/lib.rt:26:1
 returns : tie.Need-returns Inv-loop μ-loop
 returns c = let a = c .before .before in
     let l = c .before .loop in

@@ -7,8 +7,6 @@ use lib.ListN.{length, getD, length-set}
 use Rattle.reducer.proofs.Zeros.{zeros-more, zeros-all}
 use Rattle.reducer.proofs.clear.Statement.{statement}
 use Rattle.reducer.proofs.clear.Tie as tie
-use Rattle.reducer.proofs.clear.Reads as reads
-use Rattle.reducer.proofs.clear.Lts as lts
 
 abbrev Inv-loop : tie.InvT-loop
 Inv-loop words₀ k₀ words k = (k ≤ length words₀) × (length words ≡ length words₀) × ((i : ℕ) → i < k → getD words i 0 ≡ 0)
@@ -16,36 +14,28 @@ Inv-loop words₀ k₀ words k = (k ≤ length words₀) × (length words ≡ le
 abbrev μ-loop : tie.MeasureT-loop
 μ-loop words₀ k₀ words k = length words₀ - k
 
--- src/lib.rt:135:5
 loop-holds : tie.Need-loop-holds Inv-loop μ-loop
 loop-holds c = (search needs, search needs, λ i h. absurd (omega arith))
 
--- src/lib.rt:136:9
 mul-words : tie.Need-mul-words Inv-loop μ-loop
 mul-words c = search needs
 
--- src/lib.rt:136:9
 slice-write-words : tie.Need-slice-write-words Inv-loop μ-loop
 slice-write-words c = search needs
 
--- src/lib.rt:137:9
 add-k : tie.Need-add-k Inv-loop μ-loop
 add-k c = search needs
 
--- src/lib.rt:135:5
 loop-less : tie.Need-loop-less Inv-loop μ-loop
 loop-less c = search needs
 
--- src/lib.rt:135:5
 loop-again : tie.Need-loop-again Inv-loop μ-loop
 loop-again c = let l = c .before .loop in
     (search needs, simp length-set (l .inv .1), zeros-more (l .words) (l .k) (omega arith) (l .inv .2))
 
--- src/lib.rt:131:1
 same-length : tie.Need-same-length Inv-loop μ-loop
 same-length c = search needs
 
--- src/lib.rt:131:1
 returns : tie.Need-returns Inv-loop μ-loop
 returns c = let l = c .before .loop in
     zeros-all (c .before .before .args .words .now) (l .words) (l .k) (l .inv .1) (c .loop-test .left) (l .inv .2)

@@ -3,28 +3,20 @@ use borrow.Author.Needs.{needs}
 use Rattle.reducer.proofs.Arrays.{middle-roomy, arrays-fresh}
 use Rattle.reducer.proofs.fill_middle.Statement.{statement}
 use Rattle.reducer.proofs.fill_middle.Tie as tie
-use Rattle.reducer.proofs.fill_middle.Reads as reads
-use Rattle.reducer.proofs.fill_middle.Lts as lts
-use Rattle.reducer.proofs.reduce_rows.Reads as reduce-rows-reads
 
--- src/lib.rt:158:30
 slice-aggregate-reduce-rows : tie.Need-slice-aggregate-reduce-rows
 slice-aggregate-reduce-rows c = search needs
 
--- src/lib.rt:158:41
 slice-aggregate-reduce-rows-2 : tie.Need-slice-aggregate-reduce-rows-2
 slice-aggregate-reduce-rows-2 c = search needs
 
--- src/lib.rt:158:5
 reduce-rows-requires : tie.Need-reduce-rows-requires
 reduce-rows-requires c κs = let a = c .before .before .before .before .before in
     (a .pre .0, (middle-roomy (a .args .t .now) (a .args .evidence .now) (a .pre .1 .1 .0) (a .pre .1 .0), arrays-fresh (a .args .evidence .now) 256 (a .pre .1 .1 .1)))
 
--- src/lib.rt:149:1
 same-length : tie.Need-same-length
 same-length c = search needs
 
--- src/lib.rt:149:1
 returns : tie.Need-returns
 returns c = search needs
 

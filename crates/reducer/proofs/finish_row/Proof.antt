@@ -1,23 +1,17 @@
 -- `finish_row` meets its contract. The invariant: whatever the rule gives from here, it gives from the start (`Going`).
 -- The measure: the height of the row's boundary. Assumes nothing.
 use borrow.Author.Needs.{needs}
-use mathlib.Core.Path.{_≡_, sym, _∙_}
-use Prim.Native.Nat.{ℕ, _≤_, _<_, _-_, _+_, _*_}
+use mathlib.Core.Path.{_≡_, _∙_}
+use Prim.Native.Nat.{_≤_, _<_, _+_, _*_}
 use native.Mathlib.Omega.{arith}
 use mathlib.Core.Path.{subst}
-use lib.ListN.{length, length-set}
+use lib.ListN.{length}
 use Rattle.bitset.specs.Bits.{IsGreatest, TopIs}
 use Rattle.reducer.proofs.Heights.{height}
 use Rattle.reducer.proofs.RowAdditions.{Going, going-first}
 use Rattle.reducer.proofs.RowSteps.{largest-asks, row-ends-empty, row-place, row-room-kept, row-wide, row-ends-free, add-row-asks, row-falls, row-goes-on}
 use Rattle.reducer.proofs.finish_row.Statement.{statement}
 use Rattle.reducer.proofs.finish_row.Tie as tie
-use Rattle.reducer.proofs.finish_row.Reads as reads
-use Rattle.reducer.proofs.finish_row.Lts as lts
-use Rattle.bitset.proofs.add.Reads as add-reads
-use Rattle.bitset.proofs.largest.Reads as largest-reads
-use Rattle.reducer.proofs.add_row.Reads as add-row-reads
-use Rattle.reducer.proofs.keep.Reads as keep-reads
 
 abbrev Inv-loop : tie.InvT-loop
 Inv-loop t c w b₀ evidence₀ kept₀ owner₀ additions₀ b evidence kept owner additions =
@@ -42,148 +36,116 @@ kept-here c =
     let l = c .before .before .before .before .loop in
     row-room-kept (a .args .t .now) (a .pre .0) (a .args .c) (a .pre .1 .0) (a .args .w) (a .pre .1 .1 .0) _ (l .b) (l .evidence) (l .kept) (l .owner) (l .additions) (l .inv .4) _ (top-here c)
 
--- src/lib.rt:64:5
 loop-holds : tie.Need-loop-holds Inv-loop μ-loop
 loop-holds c = let a = c .before .before .before .before .before in
     (search needs, search needs, search needs, search needs, going-first _ _ _ _ _ _ (a .pre .1 .1 .1))
 
--- src/lib.rt:65:13
 largest-requires : tie.Need-largest-requires Inv-loop μ-loop
 largest-requires c κs = let a = c .before .before .before .before .before .before .before in
     let l = c .before .loop in
     largest-asks (a .args .t .now) (a .pre .0) (a .args .c) (a .pre .1 .0) (a .args .w) (a .pre .1 .1 .0) _ (l .b) (l .evidence) (l .kept) (l .owner) (l .additions) (l .inv .4)
 
--- src/lib.rt:68:17
 enum-told : tie.Need-enum-told Inv-loop μ-loop
 enum-told c = search needs
 
--- src/lib.rt:68:17
 same-length : tie.Need-same-length Inv-loop μ-loop
 same-length c = search needs
 
--- src/lib.rt:68:17
 same-length-2 : tie.Need-same-length-2 Inv-loop μ-loop
 same-length-2 c = search needs
 
--- src/lib.rt:68:17
 same-length-3 : tie.Need-same-length-3 Inv-loop μ-loop
 same-length-3 c = search needs
 
--- src/lib.rt:68:17
 same-length-4 : tie.Need-same-length-4 Inv-loop μ-loop
 same-length-4 c = search needs
 
--- src/lib.rt:68:17
 returns : tie.Need-returns Inv-loop μ-loop
 returns c = let a = c .before .before .before .before .before .before .before .before .before .before in
     let l = c .before .before .before .before .loop in
     row-ends-empty (a .args .t .now) (a .pre .0) (a .args .c) (a .pre .1 .0) (a .args .w) (a .pre .1 .1 .0) _ (l .b) (l .evidence) (l .kept) (l .owner) (l .additions) (l .inv .4) (a .pre .1 .1 .1 .row) (subst (TopIs (l .b)) (c .enum-told .given .1) (c .before .before .largest .ensures))
 
--- src/lib.rt:70:23
 enum-known-top : tie.Need-enum-known-top Inv-loop μ-loop
 enum-known-top c = search needs
 
--- src/lib.rt:71:25
 mul-a : tie.Need-mul-a Inv-loop μ-loop
 mul-a c = let h = place-here (c .before) in search needs
 
--- src/lib.rt:71:25
 slice-read-a : tie.Need-slice-read-a Inv-loop μ-loop
 slice-read-a c = place-here (c .before .before)
 
--- src/lib.rt:73:32
 cast-owner : tie.Need-cast-owner Inv-loop μ-loop
 cast-owner c = omega (arith, c .before .before .before .before .before .before .before .before .before .before .before .before .before .pre .0 .sized .room, c .before .before .before .before .before .before .before .before .before .before .before .before .before .pre .1 .0 .inside)
 
--- src/lib.rt:73:21
 mul-owner : tie.Need-mul-owner Inv-loop μ-loop
 mul-owner c = let h = place-here (c .before .before .before) in search needs
 
--- src/lib.rt:73:21
 slice-write-owner : tie.Need-slice-write-owner Inv-loop μ-loop
 slice-write-owner c = place-here (c .before .before .before)
 
--- src/lib.rt:74:21
 keep-requires : tie.Need-keep-requires Inv-loop μ-loop
 keep-requires c κs = let p = c .before .before .before .before .before in
     let a = c .before .before .before .before .before .before .before .before .before .before .before .before .before .before .before in
     let l = c .before .before .before .before .before .before .before .before .before .loop in
     (kept-here p, row-wide (a .args .t .now) (a .pre .0) (a .args .c) (a .pre .1 .0) (a .args .w) (a .pre .1 .1 .0) _ (l .b) (l .evidence) (l .kept) (l .owner) (l .additions) (l .inv .4) _ (top-here p))
 
--- src/lib.rt:75:21
 same-length-5 : tie.Need-same-length-5 Inv-loop μ-loop
 same-length-5 c = search needs
 
--- src/lib.rt:75:21
 same-length-6 : tie.Need-same-length-6 Inv-loop μ-loop
 same-length-6 c = search needs
 
--- src/lib.rt:75:21
 same-length-7 : tie.Need-same-length-7 Inv-loop μ-loop
 same-length-7 c = search needs
 
--- src/lib.rt:75:21
 same-length-8 : tie.Need-same-length-8 Inv-loop μ-loop
 same-length-8 c = search needs
 
--- src/lib.rt:75:21
 returns-2 : tie.Need-returns-2 Inv-loop μ-loop
 returns-2 c = let p = c .before .before .before .before .before .before .before .before in
     let a = c .before .before .before .before .before .before .before .before .before .before .before .before .before .before .before .before .before .before in
     let l = c .before .before .before .before .before .before .before .before .before .before .before .before .loop in
     row-ends-free (a .args .t .now) (a .pre .0) (a .args .c) (a .pre .1 .0) (a .args .w) (a .pre .1 .1 .0) _ (l .b) (l .evidence) (l .kept) (l .owner) (l .additions) (l .inv .4) _ (top-here p) (a .pre .1 .1 .1 .row) (c .before .before .before .before .before .if1 .taken) _ (c .before .before .keep .ensures)
 
--- src/lib.rt:77:38
 cast-add-row : tie.Need-cast-add-row Inv-loop μ-loop
 cast-add-row c = omega (arith, c .before .before .slice-known5 .given (c .before .before .before .before .top .given .0 .0))
 
--- src/lib.rt:77:17
 add-row-requires : tie.Need-add-row-requires Inv-loop μ-loop
 add-row-requires c κs = let p = c .before .before .before .before in
     let a = c .before .before .before .before .before .before .before .before .before .before .before .before .before .before in
     let l = c .before .before .before .before .before .before .before .before .loop in
     add-row-asks (a .args .t .now) (a .pre .0) (a .args .c) (a .pre .1 .0) (a .args .w) (a .pre .1 .1 .0) _ (l .b) (l .evidence) (l .kept) (l .owner) (l .additions) (l .inv .4) _ (top-here p) (c .before .if1 .left)
 
--- src/lib.rt:78:26
 mul-from : tie.Need-mul-from Inv-loop μ-loop
 mul-from c = let h = kept-here (c .before .before .before .before .before .before .before) in search needs
 
--- src/lib.rt:79:27
 add-end : tie.Need-add-end Inv-loop μ-loop
 add-end c = let h = kept-here (c .before .before .before .before .before .before .before) in search needs
 
--- src/lib.rt:80:32
 mul-add : tie.Need-mul-add Inv-loop μ-loop
 mul-add c = let h = kept-here (c .before .before .before .before .before .before .before .before) in search needs
 
--- src/lib.rt:80:32
 sub-add : tie.Need-sub-add Inv-loop μ-loop
 sub-add c = let h = kept-here (c .before .before .before .before .before .before .before .before) in search needs
 
--- src/lib.rt:80:32
 part-add-start : tie.Need-part-add-start Inv-loop μ-loop
 part-add-start c = let h = kept-here (c .before .before .before .before .before .before .before .before .before) in search needs
 
--- src/lib.rt:80:32
 part-add-end : tie.Need-part-add-end Inv-loop μ-loop
 part-add-end c = let h = kept-here (c .before .before .before .before .before .before .before .before .before) in search needs
 
--- src/lib.rt:80:17
 add-requires : tie.Need-add-requires Inv-loop μ-loop
 add-requires c κs = search needs
 
--- src/lib.rt:81:17
 add-additions : tie.Need-add-additions Inv-loop μ-loop
 add-additions c = search needs
 
--- src/lib.rt:64:5
 loop-less : tie.Need-loop-less Inv-loop μ-loop
 loop-less c = let p = c .before .before .before .before .before .before .before .before .before .before .before .before .before in
     let a = c .before .before .before .before .before .before .before .before .before .before .before .before .before .before .before .before .before .before .before .before .before .before .before in
     let l = c .before .before .before .before .before .before .before .before .before .before .before .before .before .before .before .before .before .loop in
     row-falls (a .args .t .now) (a .pre .0) (a .args .c) (a .pre .1 .0) (a .args .w) (a .pre .1 .1 .0) _ (l .b) (l .evidence) (l .kept) (l .owner) (l .additions) (l .inv .4) _ (top-here p) (c .before .before .before .before .before .before .before .before .before .before .if1 .left) _ (c .before .before .add .ensures)
 
--- src/lib.rt:64:5
 loop-again : tie.Need-loop-again Inv-loop μ-loop
 loop-again c = let p = c .before .before .before .before .before .before .before .before .before .before .before .before .before in
     let a = c .before .before .before .before .before .before .before .before .before .before .before .before .before .before .before .before .before .before .before .before .before .before .before in

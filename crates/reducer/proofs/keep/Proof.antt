@@ -1,14 +1,12 @@
 -- `keep` meets its contract. The invariant: the words passed are copied. The measure: the words left. Assumes nothing.
 use borrow.Author.Needs.{needs}
 use mathlib.Core.Path.{_≡_, refl}
-use Prim.Native.Nat.{_≤_, _<_, _-_, _+_, _*_}
+use Prim.Native.Nat.{_≤_, _-_}
 use native.Mathlib.Omega.{arith}
 use lib.ListN.{length, getD, length-set}
 use Rattle.reducer.proofs.RowWords.{Written, written-none, written-more, copy-all}
 use Rattle.reducer.proofs.keep.Statement.{statement}
 use Rattle.reducer.proofs.keep.Tie as tie
-use Rattle.reducer.proofs.keep.Reads as reads
-use Rattle.reducer.proofs.keep.Lts as lts
 
 abbrev Inv-loop : tie.InvT-loop
 Inv-loop kept₀ m w words at k₀ kept k = (k ≤ w) × (length kept ≡ length kept₀) × Written at k (λ i. getD words i 0) kept₀ kept
@@ -16,53 +14,41 @@ Inv-loop kept₀ m w words at k₀ kept k = (k ≤ w) × (length kept ≡ length
 abbrev μ-loop : tie.MeasureT-loop
 μ-loop kept₀ m w words at k₀ kept k = w - k
 
--- src/lib.rt:46:14
 mul-at : tie.Need-mul-at Inv-loop μ-loop
 mul-at c = search needs
 
--- src/lib.rt:48:5
 loop-holds : tie.Need-loop-holds Inv-loop μ-loop
 loop-holds c = (search needs, search needs, written-none _ _ _)
 
--- src/lib.rt:49:24
 mul-kept : tie.Need-mul-kept Inv-loop μ-loop
 mul-kept c = search needs
 
--- src/lib.rt:49:24
 shared-slice-read-kept : tie.Need-shared-slice-read-kept Inv-loop μ-loop
 shared-slice-read-kept c = search needs
 
--- src/lib.rt:49:14
 add-kept : tie.Need-add-kept Inv-loop μ-loop
 add-kept c = search needs
 
--- src/lib.rt:49:9
 mul-kept-2 : tie.Need-mul-kept-2 Inv-loop μ-loop
 mul-kept-2 c = search needs
 
--- src/lib.rt:49:9
 slice-write-kept : tie.Need-slice-write-kept Inv-loop μ-loop
 slice-write-kept c = search needs
 
--- src/lib.rt:50:9
 add-k : tie.Need-add-k Inv-loop μ-loop
 add-k c = search needs
 
--- src/lib.rt:48:5
 loop-less : tie.Need-loop-less Inv-loop μ-loop
 loop-less c = search needs
 
--- src/lib.rt:48:5
 loop-again : tie.Need-loop-again Inv-loop μ-loop
 loop-again c = let a = c .before .before .before in
     let l = c .before .before .loop in
     (search needs, simp length-set (l .inv .1), written-more _ (l .k) _ _ (l .kept) _ (omega (arith, a .pre .0)) refl (l .inv .2))
 
--- src/lib.rt:41:1
 same-length : tie.Need-same-length Inv-loop μ-loop
 same-length c = search needs
 
--- src/lib.rt:41:1
 returns : tie.Need-returns Inv-loop μ-loop
 returns c = let a = c .before .before in
     let l = c .before .loop in

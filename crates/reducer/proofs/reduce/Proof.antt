@@ -6,46 +6,34 @@ use Rattle.reducer.specs.Reduce.{reduceVerdict}
 use Rattle.reducer.proofs.Verdicts.{accepted-valid, accepted-long, accepted-ends, refused-ends}
 use Rattle.reducer.proofs.reduce.Statement.{statement}
 use Rattle.reducer.proofs.reduce.Tie as tie
-use Rattle.reducer.proofs.reduce.Reads as reads
-use Rattle.reducer.proofs.reduce.Lts as lts
-use Rattle.reducer.proofs.fill.Reads as fill-reads
-use Rattle.reducer.proofs.judge.Reads as judge-reads
 
 -- the verdict where the call is accepted
 yes-here : (c : tie.After-enum-told) → reduceVerdict (c .before .before .before .before .before .before .args .t .now) (c .before .before .before .before .before .before .args .evidence .now) ≡ Accepted
 yes-here c = sym (c .before .before .judge .ensures) ∙ c .enum-told .given .1
 
--- src/lib.rt:197:9
 judge-requires : tie.Need-judge-requires
 judge-requires c κs = search needs
 
--- src/lib.rt:199:26
 enum-known-v : tie.Need-enum-known-v
 enum-known-v c = search needs
 
--- src/lib.rt:204:37
 enum-told : tie.Need-enum-told
 enum-told c = search needs
 
--- src/lib.rt:204:17
 fill-requires : tie.Need-fill-requires
 fill-requires c κs = let a = c .before .before .before .before .before .before .before in
     (accepted-valid (a .args .t .now) (a .args .evidence .now) (yes-here (c .before)), accepted-long (a .args .t .now) (a .args .evidence .now) (yes-here (c .before)))
 
--- src/lib.rt:194:1
 same-length : tie.Need-same-length
 same-length c = search needs
 
--- src/lib.rt:194:1
 returns : tie.Need-returns
 returns c = let a = c .before .before .before .before .before .before .before in
     refused-ends (a .args .t .now) (a .args .evidence .now) _ _ (sym (c .before .before .before .judge .ensures) ∙ c .before .v .given .1) refl refl
 
--- src/lib.rt:194:1
 same-length-2 : tie.Need-same-length-2
 same-length-2 c = search needs
 
--- src/lib.rt:194:1
 returns-2 : tie.Need-returns-2
 returns-2 c = let a = c .before .before .before .before .before .before .before .before .before .before in
     accepted-ends (a .args .t .now) (a .args .evidence .now) (yes-here (c .before .before .before .before)) _ _ refl (c .before .before .fill .ensures)

@@ -1,6 +1,6 @@
 -- `reduce_row` meets its contract: the row starts as the cell alone beside its faces, and is then finished. Assumes nothing.
 use borrow.Author.Needs.{needs}
-use mathlib.Core.Path.{_≡_, sym, _∙_}
+use mathlib.Core.Path.{sym, _∙_}
 use Prim.Native.Nat.{_≤_, _<_, _+_, _*_, _/_}
 use native.Mathlib.Omega.{arith}
 use lib.ListN.{length}
@@ -8,10 +8,6 @@ use Rattle.reducer.proofs.Starts.{cell-word, row-room, begun, begun-oth
 use Rattle.reducer.proofs.RowSteps.{finished-since}
 use Rattle.reducer.proofs.reduce_row.Statement.{statement}
 use Rattle.reducer.proofs.reduce_row.Tie as tie
-use Rattle.reducer.proofs.reduce_row.Reads as reads
-use Rattle.reducer.proofs.reduce_row.Lts as lts
-use Rattle.reducer.proofs.finish_row.Reads as finish-row-reads
-use Rattle.rows.proofs.add_faces.Reads as add-faces-reads
 
 -- the row's words lie inside the evidence, and cell c has a word among them
 cell-here : (a : tie.Start) → a .args .c / 64 < a .args .w
@@ -20,73 +16,56 @@ cell-here a = cell-word (a .args .t .now) (a .args .c) (a .args .w) (a .pre .1 .
 room-here : (a : tie.Start) → a .args .c * a .args .w + a .args .w ≤ length (a .args .evidence .now)
 room-here a = row-room (a .args .t .now) (a .args .evidence .now) (a .args .c) (a .args .w) (a .pre .1 .1 .0) (a .pre .1 .0 .inside) (omega (arith, a .pre .1 .1 .1 .roomy .evidence))
 
--- src/lib.rt:95:14
 mul-at : tie.Need-mul-at
 mul-at c = let a = c .before .before .before .before in let h = cell-here a in let r = room-here a in search needs
 
--- src/lib.rt:96:38
 add-evidence : tie.Need-add-evidence
 add-evidence c = let a = c .before .before .before .before in let h = cell-here a in let r = room-here a in search needs
 
--- src/lib.rt:96:29
 mul-evidence : tie.Need-mul-evidence
 mul-evidence c = let a = c .before .before .before .before in let h = cell-here a in let r = room-here a in search needs
 
--- src/lib.rt:96:29
 slice-read-evidence : tie.Need-slice-read-evidence
 slice-read-evidence c = let a = c .before .before .before .before .before in let h = cell-here a in let r = room-here a in search needs
 
--- src/lib.rt:96:54
 shl-evidence : tie.Need-shl-evidence
 shl-evidence c = search needs
 
--- src/lib.rt:96:14
 add-evidence-2 : tie.Need-add-evidence-2
 add-evidence-2 c = let a = c .before .before .before .before .before in let h = cell-here a in let r = room-here a in search needs
 
--- src/lib.rt:96:5
 mul-evidence-2 : tie.Need-mul-evidence-2
 mul-evidence-2 c = let a = c .before .before .before .before .before in let h = cell-here a in let r = room-here a in search needs
 
--- src/lib.rt:96:5
 slice-write-evidence : tie.Need-slice-write-evidence
 slice-write-evidence c = let a = c .before .before .before .before .before in let h = cell-here a in let r = room-here a in search needs
 
--- src/lib.rt:98:27
 slice-aggregate-add-faces : tie.Need-slice-aggregate-add-faces
 slice-aggregate-add-faces c = search needs
 
--- src/lib.rt:98:5
 add-faces-requires : tie.Need-add-faces-requires
 add-faces-requires c κs = search needs
 
--- src/lib.rt:99:25
 array-borrow-prefix-faces : tie.Need-array-borrow-prefix-faces
 array-borrow-prefix-faces c = search needs
 
--- src/lib.rt:99:25
 slice-aggregate-finish-row : tie.Need-slice-aggregate-finish-row
 slice-aggregate-finish-row c = let a = c .before .before .before .before .before .before .before .before .before in
     a .pre .1 .1 .0 ∙ sym (begun (a .args .t .now) (a .pre .0) (a .args .c) (a .pre .1 .0) (a .args .evidence .now) (a .args .kept .now) (a .args .owner .now) _ (a .pre .1 .1 .1) (c .before .before .add-faces .ensures) (a .args .w) (a .pre .1 .1 .0) .long)
 
--- src/lib.rt:99:5
 finish-row-requires : tie.Need-finish-row-requires
 finish-row-requires c κs = let a = c .before .before .before .before .before .before .before .before .before .before .before .before in
     (a .pre .0, (a .pre .1 .0, (a .pre .1 .1 .0, begun (a .args .t .now) (a .pre .0) (a .args .c) (a .pre .1 .0) (a .args .evidence .now) (a .args .kept .now) (a .args .owner .now) _ (a .pre .1 .1 .1) (c .before .before .before .before .before .add-faces .ensures) (a .args .w) (a .pre .1 .1 .0))))
 
--- src/lib.rt:88:1
 same-length : tie.Need-same-length
 same-length c = search needs
 
--- src/lib.rt:88:1
 same-length-2 : tie.Need-same-length-2
 same-length-2 c = search needs
 
--- src/lib.rt:88:1
 same-length-3 : tie.Need-same-length-3
 same-length-3 c = search needs
 
--- src/lib.rt:88:1
 returns : tie.Need-returns
 returns c = let a = c .before .before .before .before .before .before .before .before .before .before .before .before .before .before .before .before .before .before .before .before in
     finished-since (a .args .t .now) (a .args .c) (a .args .evidence .now) _ _ _ _ _ (begun-others (a .args .t .now) (a .pre .0) (a .args .c) (a .pre .1 .0) (a .args .evidence .now) (a .args .kept .now) (a .args .owner .now) _ (a .pre .1 .1 .1) (c .before .before .before .before .before .before .before .before .before .before .before .before .before .add-faces .ensures) (a .args .w) (a .pre .1 .1 .0)) (c .before .before .before .before .before .before .before .finish-row .ensures)

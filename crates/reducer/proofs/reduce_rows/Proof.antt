@@ -2,16 +2,12 @@
 use borrow.Author.Needs.{needs}
 use mathlib.Core.Path.{_≡_, ap, _∙_}
 use mathlib.Core.Logic.{⊎-elim}
-use Prim.Native.Nat.{ℕ, _≤_, _<_, _-_}
+use Prim.Native.Nat.{_≤_, _-_}
 use native.Mathlib.Omega.{arith}
 use lib.ListN.{length}
 use Rattle.reducer.proofs.Progress.{Progress, progress-first, progress-ready, count-fits, progress-free, progress-live, progress-named, progress-ends, not-live}
 use Rattle.reducer.proofs.reduce_rows.Statement.{statement}
 use Rattle.reducer.proofs.reduce_rows.Tie as tie
-use Rattle.reducer.proofs.reduce_rows.Reads as reads
-use Rattle.reducer.proofs.reduce_rows.Lts as lts
-use Rattle.bitset.proofs.words_for.Reads as words-for-reads
-use Rattle.reducer.proofs.reduce_row.Reads as reduce-row-reads
 
 abbrev Inv-loop : tie.InvT-loop
 Inv-loop t evidence₀ kept₀ owner₀ n w additions₀ c₀ evidence kept owner additions c =
@@ -20,73 +16,57 @@ Inv-loop t evidence₀ kept₀ owner₀ n w additions₀ c₀ evidence kept owne
 abbrev μ-loop : tie.MeasureT-loop
 μ-loop t evidence₀ kept₀ owner₀ n w additions₀ c₀ evidence kept owner additions c = n - c
 
--- src/lib.rt:116:9
 words-for-requires : tie.Need-words-for-requires Inv-loop μ-loop
 words-for-requires c κs = search needs
 
--- src/lib.rt:119:5
 loop-holds : tie.Need-loop-holds Inv-loop μ-loop
 loop-holds c = let a = c .before .before .before .before .before in
     (search needs, search needs, search needs, search needs, progress-first (a .args .t .now) (a .args .evidence .now) (a .args .kept .now) (a .args .owner .now) (a .pre .1 .0) (a .pre .1 .1))
 
--- src/lib.rt:120:19
 mul-p : tie.Need-mul-p Inv-loop μ-loop
 mul-p c = search needs
 
--- src/lib.rt:120:17
 mul-p-2 : tie.Need-mul-p-2 Inv-loop μ-loop
 mul-p-2 c = search needs
 
--- src/lib.rt:120:17
 shared-slice-read-p : tie.Need-shared-slice-read-p Inv-loop μ-loop
 shared-slice-read-p c = search needs
 
--- src/lib.rt:122:17
 reduce-row-requires : tie.Need-reduce-row-requires Inv-loop μ-loop
 reduce-row-requires c κs = let a = c .before .before .before .before .before .before .before .before .before .before .before .before in
     let l = c .before .before .before .before .before .before .loop in
     let h = c .before .before .before .before .before .loop-test .taken in
     (a .pre .0, (record { inside = h; low = c .before .before .before .if1 .taken }, (c .before .before .before .before .before .before .before .words-for .ensures, progress-ready _ _ _ _ _ _ (l .inv .4) h)))
 
--- src/lib.rt:123:47
 cast-additions : tie.Need-cast-additions Inv-loop μ-loop
 cast-additions c = search needs
 
--- src/lib.rt:123:37
 mul-additions : tie.Need-mul-additions Inv-loop μ-loop
 mul-additions c = search needs
 
--- src/lib.rt:123:37
 array-read-additions : tie.Need-array-read-additions Inv-loop μ-loop
 array-read-additions c = search needs
 
--- src/lib.rt:123:37
 add-additions : tie.Need-add-additions Inv-loop μ-loop
 add-additions c = let a = c .before .before .before .before .before .before .before .before .before .before .before .before .before .before .before .before .before .before .before in
     let l = c .before .before .before .before .before .before .before .before .before .before .before .before .before .loop in
     omega (arith, count-fits _ _ _ _ _ _ (l .inv .4) _ (c .before .before .before .before .before .before .reduce-row .result) (c .before .before .before .before .before .before .before .before .before .before .if1 .taken) (omega (arith, a .pre .0 .sized .room, c .before .before .before .before .before .before .before .before .before .before .before .before .loop-test .taken)) (c .before .before .before .before .before .before .reduce-row .ensures .few))
 
--- src/lib.rt:123:23
 cast-additions-2 : tie.Need-cast-additions-2 Inv-loop μ-loop
 cast-additions-2 c = search needs
 
--- src/lib.rt:123:13
 mul-additions-2 : tie.Need-mul-additions-2 Inv-loop μ-loop
 mul-additions-2 c = search needs
 
--- src/lib.rt:123:13
 array-write-additions : tie.Need-array-write-additions Inv-loop μ-loop
 array-write-additions c = search needs
 
--- src/lib.rt:125:9
 add-c : tie.Need-add-c Inv-loop μ-loop
 add-c c = search needs
 
--- src/lib.rt:119:5
 loop-less : tie.Need-loop-less Inv-loop μ-loop
 loop-less c = search needs
 
--- src/lib.rt:119:5
 loop-again : tie.Need-loop-again Inv-loop μ-loop
 loop-again c = let l = c .before .before .before .loop in
     let h = c .before .before .loop-test .taken in
@@ -107,19 +87,15 @@ loop-again c = let l = c .before .before .before .loop in
     ))
     (c .if1 .came)
 
--- src/lib.rt:109:1
 same-length : tie.Need-same-length Inv-loop μ-loop
 same-length c = search needs
 
--- src/lib.rt:109:1
 same-length-2 : tie.Need-same-length-2 Inv-loop μ-loop
 same-length-2 c = search needs
 
--- src/lib.rt:109:1
 same-length-3 : tie.Need-same-length-3 Inv-loop μ-loop
 same-length-3 c = search needs
 
--- src/lib.rt:109:1
 returns : tie.Need-returns Inv-loop μ-loop
 returns c = let l = c .before .loop in
     progress-ends _ _ _ _ _ _ (l .inv .4) (omega (arith, c .loop-test .left))

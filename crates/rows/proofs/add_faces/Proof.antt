@@ -8,7 +8,8 @@ use Rattle.table.specs.Kind.{used}
 use Rattle.table.specs.Table.{dim, face}
 use Rattle.rows.specs.Rows.{boundaryWords}
 use borrow.Author.Needs.{needs}
-use Rattle.rows.proofs.Places.{PlacesAdded, no-places, one-place, all-places, face-by-value, face-fits}
+use Rattle.rows.proofs.Places.{PlacesAdded, no-places, one-place, all-places, face-fits}
+use Rattle.table.proofs.Records.{faces-at}
 use Rattle.rows.proofs.add_faces.Statement.{statement}
 use Rattle.rows.proofs.add_faces.Tie as tie
 
@@ -38,7 +39,7 @@ places c = c .before .before .used .ensures .0 ∙ ap used (c .before .before .b
 face-here : (c : tie.In-loop Inv-loop μ-loop) → getD (c .before .before .faces .result) (c .before .loop .j) 0 ≡ face (c .before .before .before .before .before .before .before .args .t .now) (c .before .before .before .before .before .before .before .args .c) (c .before .loop .j)
 face-here c =
     let a = c .before .before .before .before .before .before .before .args in
-    face-by-value (a .t .now) (a .c) _ (c .before .before .faces .ensures) _ (omega (arith, c .loop-test .taken, c .before .before .before .used .ensures .1))
+    faces-at (a .t .now) (a .c) _ (c .before .before .faces .ensures) _ (omega (arith, c .loop-test .taken, c .before .before .before .used .ensures .1))
 
 -- and it lies in the set's words
 fits-here : (c : tie.In-loop Inv-loop μ-loop) → getD (c .before .before .faces .result) (c .before .loop .j) 0 / 64 < boundaryWords

@@ -8,7 +8,7 @@ use borrow.Author.Needs.{needs}
 use Rattle.bitset.specs.Bits.{wordsFor}
 use Rattle.rows.specs.Rows.{boundaryWords, rowWidth, rowOf}
 use Rattle.rows.proofs.Members.{zeros-small}
-use Rattle.rows.proofs.Places.{shape-cells}
+use Rattle.table.proofs.Records.{sized-cells-is}
 use Rattle.rows.proofs.RowWords.{Copied, copied-none, copied-more, copied-word, row-width-fits, row-ends, length-rowOf}
 use Rattle.rows.proofs.RowAdding.{WordsAdded, no-words, one-word, all-words, word-of-live-row}
 use Rattle.rows.proofs.row_boundary.Statement.{statement}
@@ -35,7 +35,7 @@ words-for-requires c κs = search needs
 
 -- the width that the code goes by is the rows'
 width-is : (c : tie.After-words-for Inv-loop μ-loop Inv-loop2 μ-loop2) → c .words-for .result ≡ rowWidth (c .before .before .before .before .args .t .now)
-width-is c = c .words-for .ensures ∙ ap wordsFor (c .before .of .ensures ∙ shape-cells _ (c .before .before .before .before .pre .0 .sized))
+width-is c = c .words-for .ensures ∙ ap wordsFor (c .before .of .ensures ∙ sized-cells-is _ (c .before .before .before .before .pre .0 .sized))
 
 -- the row lies inside the evidence, at most eight words of it
 row-here : (c : tie.After-words-for Inv-loop μ-loop Inv-loop2 μ-loop2)

@@ -1,11 +1,10 @@
 -- `sheet::all_pass` meets its contract. The invariant: every cell below c passes. The measure: what is left of the range.
 -- Assumes nothing.
 use borrow.Author.Needs.{needs}
-use mathlib.Core.Path.{_≡_, refl, sym, ap, _∙_}
-use mathlib.Core.Bool.{true, false}
-use Prim.Native.Nat.{ℕ, _-_, _≤_, _<_}
+use mathlib.Core.Path.{refl}
+use Prim.Native.Nat.{_-_, _≤_}
 use native.Mathlib.Omega.{arith}
-use Rattle.sheet.proofs.Turns.{passed, passed-none, passed-more, passed-stops, passed-all}
+use Rattle.sheet.proofs.Passing.{passed, passed-none, passed-more, passed-stops, passed-all}
 use Rattle.sheet.proofs.all_pass.Statement.{statement}
 use Rattle.sheet.proofs.all_pass.Tie as tie
 

@@ -1,9 +1,9 @@
 -- `sheet::count_cell` meets its contract. The invariant: a counter is ahead by one exactly where a place below j names its cell, and
 -- the counters are as many as they were. The measure: what is left of the places. Assumes nothing.
 use borrow.Author.Needs.{needs}
-use mathlib.Core.Path.{_≡_, refl, sym, ap, _∙_}
+use mathlib.Core.Path.{_≡_, refl}
 use mathlib.Core.Logic.{⊎-elim}
-use Prim.Native.Nat.{ℕ, _-_, _≤_, _<_}
+use Prim.Native.Nat.{_-_, _≤_, _<_}
 use native.Mathlib.Omega.{arith}
 use lib.ListN.{length}
 use Rattle.table.specs.Kind.{used as usedOf}

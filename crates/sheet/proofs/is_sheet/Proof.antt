@@ -1,9 +1,9 @@
 -- `sheet::is_sheet` meets its contract: without a level there is no live cell, and otherwise the counters decide.
 -- Assumes nothing.
 use borrow.Author.Needs.{needs}
-use mathlib.Core.Path.{_≡_, sym, _∙_}
+use mathlib.Core.Path.{sym, _∙_}
 use Rattle.sheet.proofs.Counters.{counted-none}
-use Rattle.sheet.proofs.Turns.{no-levels-no, sheet-by-counters}
+use Rattle.sheet.proofs.Passing.{no-levels-no, sheet-by-counters}
 use Rattle.sheet.proofs.is_sheet.Statement.{statement}
 use Rattle.sheet.proofs.is_sheet.Tie as tie
 

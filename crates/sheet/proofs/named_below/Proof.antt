@@ -1,9 +1,9 @@
 -- `sheet::named_below` meets its contract: where the search stops the place names f, and where it ends none does.
 -- The invariant: no place below l names f. The measure: what is left of the range. Assumes nothing.
 use borrow.Author.Needs.{needs}
-use mathlib.Core.Path.{_≡_, refl, sym, ap, _∙_}
-use mathlib.Core.Bool.{true, false}
-use Prim.Native.Nat.{ℕ, _-_, _≤_, _<_}
+use mathlib.Core.Path.{_≡_, sym, ap, _∙_}
+use mathlib.Core.Bool.{false}
+use Prim.Native.Nat.{_-_, _≤_}
 use native.Mathlib.Omega.{arith}
 use Rattle.sheet.specs.Sides.{namedBelow}
 use Rattle.sheet.proofs.Counters.{named-none, named-at, named-other}

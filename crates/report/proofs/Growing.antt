@@ -1,0 +1,116 @@
+-- Laws of a text in the making: one byte, a number, a line, seven lines, a refusal.
+-- What carries them: bytes put after bytes, and that putting together is associative. Assumes nothing.
+use mathlib.Core.Path.{_≡_, ap, _∙_}
+use mathlib.Core.List.{List, [], _∷_, _++_, append-assoc}
+use Prim.Native.Nat.{ℕ, _+_, _*_, _/_, _%_, _≤_, _<_}
+use native.Mathlib.Numerals.{add-one}
+use native.Mathlib.Omega.{arith}
+use borrow.Author.Tests.{lt-ltb, le-ltb}
+use lib.ListN.{length, take, set}
+use lib.Seq.{take-suc-set}
+use Rattle.table.specs.Numbers.{numberOf}
+use Rattle.table.specs.declared.Refusal.{Refusal}
+use Rattle.table.specs.declared.Refusal.the-variants.{Length, Invalid, NotLive, SameCell, DimensionsDiffer, FacesDiffer, NotClosed, TopMarked, NoRoom, TooLarge, Misplaced, NoSuchPlace, RuleA, RuleB, BadContents, BadNumber}
+use Rattle.sketch.specs.Form.{pieces, dimensions}
+use Rattle.report.specs.declared.Text.{Text}
+use Rattle.report.specs.Lines.{decimal, line, linesOf, refusedLine, space, newline, textOf}
+use Rattle.report.specs.Making.{longestNumber, longestLine, Grown}
+
+-- ---- bytes after bytes
+
+pub taken-one-more : (bytes : List ℕ) (at b : ℕ) → at < length bytes → take (at + 1) (set bytes at b) ≡ take at bytes ++ (b ∷ [])
+taken-one-more bytes at b h = rw (add-one at) (take-suc-set bytes at b h)
+
+grown-then : {x y r : Text} {s u : List ℕ} {m k : ℕ} → Grown x s m y → Grown y u k r → Grown x (s ++ u) (m + k) r
+grown-then {x} {y} {r} {s} {u} g h = record {
+  text = h .text ∙ ap (λ (l : List ℕ). l ++ u) (g .text) ∙ append-assoc (textOf x) s u;
+  short = omega (arith, g .short, h .short);
+}
+
+grown-as : {x r : Text} {s u : List ℕ} {m k : ℕ} → Grown x s m r → s ≡ u → m ≤ k → Grown x u k r
+grown-as {x} g e l = record {
+  text = g .text ∙ ap (λ (v : List ℕ). textOf x ++ v) e;
+  short = omega (arith, g .short);
+}
+
+-- ---- a number
+
+one-digit : (v : ℕ) → v < 10 → ((v + 48) ∷ []) ≡ decimal v
+unfolding decimal
+one-digit v h = rw (lt-ltb v 10 h)
+
+two-digits : (v : ℕ) → 10 ≤ v → v < 100 → ((v / 10 + 48) ∷ (v % 10 + 48) ∷ []) ≡ decimal v
+unfolding decimal
+two-digits v g h = rw (le-ltb v 10 g, lt-ltb v 100 h)
+
+three-digits : (v : ℕ) → 100 ≤ v → ((v / 100 + 48) ∷ (v / 10 % 10 + 48) ∷ (v % 10 + 48) ∷ []) ≡ decimal v
+unfolding decimal
+three-digits v g = rw (le-ltb v 10 (omega arith), le-ltb v 100 g)
+
+pub number-one : {x r : Text} (v : ℕ) → v < 10 → Grown x ((v + 48) ∷ []) 1 r → Grown x (decimal v) longestNumber r
+number-one v h g = grown-as g (one-digit v h) (omega arith)
+
+pub number-two : {x y r : Text} (v : ℕ) → 10 ≤ v → v < 100 → Grown x ((v / 10 + 48) ∷ []) 1 y → Grown y ((v % 10 + 48) ∷ []) 1 r → Grown x (decimal v) longestNumber r
+number-two v l h f g = grown-as (grown-then f g) (two-digits v l h) (omega arith)
+
+pub number-three : {x y z r : Text} (v : ℕ) → 100 ≤ v → Grown x ((v / 100 + 48) ∷ []) 1 y → Grown y ((v / 10 % 10 + 48) ∷ []) 1 z → Grown z ((v % 10 + 48) ∷ []) 1 r → Grown x (decimal v) longestNumber r
+number-three v l e f g = grown-as (grown-then (grown-then e f) g) (three-digits v l) (omega arith)
+
+-- ---- a line
+
+line-parts : (p n h : ℕ) → ((((decimal p ++ (space ∷ [])) ++ decimal n) ++ (space ∷ [])) ++ decimal h) ++ (newline ∷ []) ≡ line p n h
+unfolding line
+line-parts p n h = simp append-assoc
+
+pub line-grown : {x a b d e g r : Text} (p n h : ℕ) → Grown x (decimal p) longestNumber a → Grown a (space ∷ []) 1 b → Grown b (decimal n) longestNumber d → Grown d (space ∷ []) 1 e → Grown e (decimal h) longestNumber g → Grown g (newline ∷ []) 1 r → Grown x (line p n h) longestLine r
+line-grown p n h i j k l m o =
+    grown-as (grown-then (grown-then (grown-then (grown-then (grown-then i j) k) l) m) o) (line-parts p n h) (omega arith)
+
+-- ---- seven lines
+
+-- the text holds pieces 0 to p − 1 of f, each no longer than a line
+pub record HasLines (f : ℕ → List ℕ) (p : ℕ) (x : Text) : Type 0 where
+  pub text : textOf x ≡ pieces f p
+  pub short : x .len ≤ longestLine * p
+
+pub no-lines : (f : ℕ → List ℕ) (x : Text) → x .len ≡ 0 → HasLines f 0 x
+unfolding pieces
+no-lines f x e = record { text = ap (λ (n : ℕ). take n (x .bytes)) e; short = omega arith }
+
+pub one-line-more : (f : ℕ → List ℕ) (p : ℕ) (x r : Text) → HasLines f p x → Grown x (f p) longestLine r → HasLines f (p + 1) r
+unfolding pieces
+one-line-more f p x r h g = record {
+  text = rw (add-one p) (g .text ∙ ap (λ (l : List ℕ). l ++ f p) (h .text));
+  short = omega (arith, h .short, g .short);
+}
+
+pub all-lines : (n h : ℕ → ℕ) (p : ℕ) (x : Text) → p ≤ dimensions → dimensions ≤ p → HasLines (λ q. line q (n q) (h q)) p x → textOf x ≡ linesOf n h
+unfolding linesOf
+all-lines n h p x l m g = let e : p ≡ dimensions = omega arith in g .text ∙ ap (pieces (λ q. line q (n q) (h q))) e
+
+-- ---- a refusal
+
+pub number-small : (r : Refusal) → numberOf r ≤ 16
+number-small Length = omega arith
+number-small Invalid = omega arith
+number-small NotLive = omega arith
+number-small SameCell = omega arith
+number-small DimensionsDiffer = omega arith
+number-small FacesDiffer = omega arith
+number-small NotClosed = omega arith
+number-small TopMarked = omega arith
+number-small NoRoom = omega arith
+number-small TooLarge = omega arith
+number-small Misplaced = omega arith
+number-small NoSuchPlace = omega arith
+number-small (RuleA c) = omega arith
+number-small (RuleB c) = omega arith
+number-small BadContents = omega arith
+number-small BadNumber = omega arith
+
+pub refused-text : {x y r : Text} (n m : ℕ) → n ≡ m → textOf x ≡ (114 ∷ 101 ∷ 102 ∷ 117 ∷ 115 ∷ 101 ∷ 100 ∷ space ∷ []) → Grown x (decimal n) longestNumber y → Grown y (newline ∷ []) 1 r → textOf r ≡ refusedLine m
+unfolding refusedLine
+refused-text n m e w g h =
+    h .text ∙ ap (λ (l : List ℕ). l ++ (newline ∷ [])) (g .text)
+    ∙ ap (λ (l : List ℕ). (l ++ decimal n) ++ (newline ∷ [])) w
+    ∙ ap (λ (k : ℕ). 114 ∷ 101 ∷ 102 ∷ 117 ∷ 115 ∷ 101 ∷ 100 ∷ space ∷ (decimal k ++ (newline ∷ []))) e

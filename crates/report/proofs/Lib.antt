@@ -1,0 +1,4 @@
+pub mod Growing
+pub mod Accepted
+pub mod Telling
+pub mod OneReport

@@ -1,0 +1,189 @@
+// What the program prints, as a function from bytes to bytes: the seven lines of a sketch, or one line with a refusal's number.
+ghost use mathlib.Core.Path.{_≡_};
+ghost use mathlib.Core.List.{[], _∷_};
+ghost use Prim.Native.Nat.{ℕ, _+_, _≤_, _<_};
+ghost use lib.ListN.{length, getD};
+ghost use Rattle.table.specs.Kind.{capacity, top};
+ghost use Rattle.table.specs.Table.{Valid};
+ghost use Rattle.table.specs.Numbers.{numberOf};
+ghost use Rattle.rows.specs.Rows.{evidenceWords};
+ghost use Rattle.sketch.specs.Form.{contentsSize};
+ghost use Rattle.report.specs.Lines.{decimal, line, linesOf, refusedLine, textOf};
+ghost use Rattle.report.specs.Report.{longest, sizeIn, noSketch, HoleLines, Reports};
+ghost use Rattle.report.specs.Making.{room, longestNumber, longestLine, Grown, Told};
+use table::Refusal;
+use table::Table;
+use table::Verdict;
+
+// The most bytes of a sketch file, and the bytes of its table of contents.
+const LONGEST: usize = 8236;
+
+const CONTENTS: usize = 44;
+
+// A short text: the first `len` bytes.
+pub struct Text {
+    pub bytes: [u8; 96],
+    pub len: usize,
+}
+
+// The numbers of the code are those of the definitions.
+fn same_numbers()
+    ensures { λ _. do ⌜ (← ⟦LONGEST⟧ .entry) ≡ longest ⌝ }
+    ensures { λ _. do ⌜ (← ⟦CONTENTS⟧ .entry) ≡ contentsSize ⌝ }
+{}
+
+// One byte more.
+fn push(x: Text, b: u8) -> Text
+    requires { ⌜ x .len < room ⌝ }
+    ensures { λ r. ⌜ Grown x (b ∷ []) 1 r ⌝ }
+{
+    let mut bytes = x.bytes;
+    let at = x.len;
+    bytes[at] = b;
+    Text {
+        bytes: bytes,
+        len: at + 1,
+    }
+}
+
+// A number in decimal digits.
+fn push_number(x: Text, v: u16) -> Text
+    requires { ⌜ x .len + longestNumber ≤ room ⌝ }
+    requires { ⌜ v < 1000 ⌝ }
+    ensures { λ r. ⌜ Grown x (decimal v) longestNumber r ⌝ }
+{
+    if v < 10 {
+        return push(x, (v + 48) as u8);
+    }
+    if v < 100 {
+        let tens = push(x, (v / 10 + 48) as u8);
+        return push(tens, (v % 10 + 48) as u8);
+    }
+    let hundreds = push(x, (v / 100 + 48) as u8);
+    let tens = push(hundreds, (v / 10 % 10 + 48) as u8);
+    push(tens, (v % 10 + 48) as u8)
+}
+
+// The line of dimension p: n live cells, hole number h.
+fn push_line(x: Text, p: u16, n: u16, h: u16) -> Text
+    requires { ⌜ x .len + longestLine ≤ room ⌝ }
+    requires { ⌜ (p < 1000) × (n < 1000) × (h < 1000) ⌝ }
+    ensures { λ r. ⌜ Grown x (line p n h) longestLine r ⌝ }
+{
+    let first = push(push_number(x, p), b' ');
+    let second = push(push_number(first, n), b' ');
+    push(push_number(second, h), b'\n')
+}
+
+// The seven lines.
+fn lines(cells: [u16; 7], holes: [u16; 7]) -> Text
+    requires { ⌜ ((p : ℕ) → p ≤ top → getD cells p 0 ≤ capacity) ⌝ }
+    requires { ⌜ ((p : ℕ) → p ≤ top → getD holes p 0 ≤ capacity) ⌝ }
+    ensures { λ r. ⌜ textOf r ≡ linesOf (λ p. getD cells p 0) (λ p. getD holes p 0) ⌝ }
+    ensures { λ r. ⌜ r .len < room ⌝ }
+{
+    let mut r = Text {
+        bytes: [0; 96],
+        len: 0,
+    };
+    let mut p = 0;
+    while p < 7 {
+        let q = push_line(r, p as u16, cells[p], holes[p]);
+        r = q;
+        p += 1;
+    }
+    r
+}
+
+// The word of a refusal and its number.
+fn refused(why: Refusal) -> Text
+    ensures { λ r. ⌜ textOf r ≡ refusedLine (numberOf why) ⌝ }
+    ensures { λ r. ⌜ r .len < room ⌝ }
+{
+    let mut word = [0; 96];
+    word[0] = b'r';
+    word[1] = b'e';
+    word[2] = b'f';
+    word[3] = b'u';
+    word[4] = b's';
+    word[5] = b'e';
+    word[6] = b'd';
+    word[7] = b' ';
+    let number = table::number(why);
+    let x = Text {
+        bytes: word,
+        len: 8,
+    };
+    push(push_number(x, number as u16), b'\n')
+}
+
+// The lines of a valid table: evidence is made for it, checked, and counted.
+fn count_holes(t: &[u16], evidence: &mut [u64]) -> Text
+    requires { ⌜ Valid (now t) ⌝ }
+    requires { ⌜ length (now evidence) ≡ evidenceWords (now t) ⌝ }
+    ensures { λ r. ⌜ HoleLines (now (t .entry)) (textOf r) ⌝ }
+    ensures { λ r. ⌜ r .len < room ⌝ }
+{
+    reducer::reduce(t, evidence);
+    let checked = checker::check(t, evidence);
+    let cells = checked.cells;
+    let holes = checked.holes;
+    lines(cells, holes)
+}
+
+// Reads the file into the table, and tells what came of it.
+fn tell(file: &[u8], t: &mut [u16], evidence: &mut [u64]) -> Text
+    requires { ⌜ length (now evidence) ≡ evidenceWords (now t) ⌝ }
+    ensures { λ r. ⌜ Told (now (t .entry)) (now (file .entry)) (textOf r) ⌝ }
+    ensures { λ r. ⌜ r .len < room ⌝ }
+{
+    let verdict = reader::read(t, file);
+    match verdict {
+        Verdict::Accepted => count_holes(t, evidence),
+        Verdict::Refused(why) => refused(why),
+    }
+}
+
+// The number of cells that the file names.
+fn size_in(file: &[u8]) -> usize
+    requires { ⌜ contentsSize ≤ length (now file) ⌝ }
+    ensures { λ r. ⌜ r ≡ sizeIn (now (file .entry)) ⌝ }
+{
+    file[0] as usize + file[1] as usize * 256
+}
+
+// Whether the file is too long, or shorter than a table of contents, or names no table's number of cells.
+fn no_sketch(file: &[u8]) -> bool
+    ensures { λ r. ⌜ r ≡ noSketch (now (file .entry)) ⌝ }
+{
+    if file.len() > LONGEST {
+        return true;
+    }
+    if file.len() < CONTENTS {
+        return true;
+    }
+    let n = size_in(file);
+    if n == 0 {
+        return true;
+    }
+    if n > Table::CAPACITY {
+        return true;
+    }
+    false
+}
+
+// What is said of a file. The text stays inside its bytes, so that a caller can lend them.
+pub fn report(file: &[u8]) -> Text
+    ensures { λ r. ⌜ Reports (now (file .entry)) (textOf r) ⌝ }
+    ensures { λ r. ⌜ r .len < room ⌝ }
+{
+    if no_sketch(file) {
+        return refused(Refusal::BadContents);
+    }
+    let n = size_in(file);
+    let words = n * Table::WORDS;
+    let row_words = n * bitset::words_for(n);
+    let mut table = [Table::FREE; Table::CAPACITY * Table::WORDS];
+    let mut evidence = [0; Table::CAPACITY * 8];
+    tell(file, &mut table[..words], &mut evidence[..row_words])
+}

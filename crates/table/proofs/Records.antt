@@ -1,0 +1,43 @@
+-- Laws of a record as it is read: when a number is a live cell, how many cells a table of the right length has, and that the seven
+-- words by value are the record's faces. What carries them: the cases of the tests. Assumes nothing.
+use mathlib.Core.Path.{_≡_, refl, ap, _∙_}
+use mathlib.Core.Bool.{Bool, true, false, _&&_, false≢true}
+use mathlib.Core.List.{List}
+use Prim.Native.Nat.{ℕ, zero, suc, _%_, _<_}
+use native.Mathlib.Omega.{arith}
+use borrow.Author.Tests.{eq-eqb, le-leb, lt-ltb, leb-true, ltb-true}
+use lib.Dec.{leb, ltb}
+use lib.ListN.{length, getD}
+use Rattle.table.specs.Kind.{capacity, top, faces, width}
+use Rattle.table.specs.Table.{cellsOf, dim, face, facesOf, Sized, sizedCells, Live, live}
+
+both-hold : (a b : Bool) → (a && b) ≡ true → (a ≡ true) × (b ≡ true)
+both-hold true b e = (refl, e)
+both-hold false b e = absurd (false≢true e)
+
+pub live-true : (t : List ℕ) (c : ℕ) → live t c ≡ true → Live t c
+unfolding live
+live-true t c e =
+    let h = both-hold (ltb c (cellsOf t)) (leb (dim t c) top) e in
+    record { inside = ltb-true c (cellsOf t) (h .0); low = leb-true (dim t c) top (h .1) }
+
+pub live-says : (t : List ℕ) (c : ℕ) → Live t c → live t c ≡ true
+unfolding live
+live-says t c h = rw (lt-ltb c (cellsOf t) (h .inside), le-leb (dim t c) top (h .low))
+
+pub sized-cells-is : (t : List ℕ) → Sized t → sizedCells t ≡ cellsOf t
+sized-cells-is t s = simp (eq-eqb (length t % width) 0 (omega (arith, s .whole)), le-leb (cellsOf t) capacity (s .room))
+
+seven : (t : List ℕ) (c j : ℕ) → j < faces → getD (facesOf t c) j 0 ≡ face t c j
+seven t c zero h = refl
+seven t c (suc zero) h = refl
+seven t c (suc (suc zero)) h = refl
+seven t c (suc (suc (suc zero))) h = refl
+seven t c (suc (suc (suc (suc zero)))) h = refl
+seven t c (suc (suc (suc (suc (suc zero))))) h = refl
+seven t c (suc (suc (suc (suc (suc (suc zero)))))) h = refl
+seven t c (suc (suc (suc (suc (suc (suc (suc j))))))) h = absurd (omega arith)
+
+-- the seven words by value are the record's faces
+pub faces-at : (t : List ℕ) (c : ℕ) (fs : List ℕ) → fs ≡ facesOf t c → (j : ℕ) → j < faces → getD fs j 0 ≡ face t c j
+faces-at t c fs e j h = ap (λ (l : List ℕ). getD l j 0) e ∙ seven t c j h

@@ -1,0 +1,55 @@
+/* A part built by cones, one call at a time, and its hole numbers after each: a segment, its ends merged, and two caps on the loop. */
+#include <bumbleturf.h>
+#include <stdio.h>
+
+enum { N = 8, MARKS = (N + 63) / 64 };
+
+static uint16_t table[8 * N];
+
+/* Reduces, checks the evidence, and prints what it shows. */
+static uint32_t show(const char *what)
+{
+    uint64_t evidence[N * MARKS], additions[7];
+    uint16_t cells[7], holes[7], row;
+    uint32_t refused = bt_reduce(table, 8 * N, evidence, N * MARKS, additions);
+    if (refused == 0)
+        refused = bt_check(table, 8 * N, evidence, N * MARKS, cells, holes, &row);
+    if (refused == 0)
+        printf("%s: pieces %u, tunnels %u, voids %u\n", what, holes[0], holes[1], holes[2]);
+    return refused;
+}
+
+/* A new point and the cones from it over the cells whose bits are marked. */
+static uint32_t cone(uint64_t cells, uint16_t *apex)
+{
+    uint64_t marks[MARKS] = {cells};
+    return bt_cone(table, 8 * N, marks, MARKS, apex);
+}
+
+static uint32_t run(void)
+{
+    uint16_t a, b, apex;
+    uint32_t refused;
+    if ((refused = bt_empty(table, 8 * N))) return refused;
+    if ((refused = cone(0, &a))) return refused;                            /* point 0 */
+    if ((refused = cone((uint64_t)1 << a, &b))) return refused;             /* point 1, edge 2 from 0 to 1 */
+    if ((refused = show("segment"))) return refused;
+    if ((refused = bt_merge(table, 8 * N, a, b, &a))) return refused;       /* edge 2 is a loop at point 0 */
+    if ((refused = show("ends merged"))) return refused;
+    const uint64_t loop = (uint64_t)1 << a | (uint64_t)1 << 2;
+    if ((refused = cone(loop, &apex))) return refused;                      /* a triangle closes the tunnel */
+    if ((refused = show("one cap"))) return refused;
+    if ((refused = cone(loop, &apex))) return refused;                      /* a second one shuts in a void */
+    if ((refused = show("two caps"))) return refused;
+    printf("a third cap: refused %u\n", (unsigned)cone(loop, &apex));       /* all 8 records are in use */
+    printf("point with edge: refused %u\n", (unsigned)bt_merge(table, 8 * N, a, 2, &a));
+    return 0;
+}
+
+int main(void)
+{
+    uint32_t refused = run();
+    if (refused)
+        fprintf(stderr, "refused %u\n", (unsigned)refused);
+    return refused != 0;
+}

@@ -1,0 +1,34 @@
+//! A part built by cones, one call at a time, and its hole numbers after each: a segment, its ends merged, and two caps on the loop.
+
+use bumbleturf::{evidence_words, Refusal, Table};
+
+/// Reduces, checks the evidence, and prints what it shows.
+fn show(what: &str, part: &Table) -> Result<(), Refusal> {
+    let mut evidence = vec![0; evidence_words(part.room())];
+    part.reduce(&mut evidence)?;
+    let holes = part.check(&evidence)?.holes;
+    println!("{what}: pieces {}, tunnels {}, voids {}", holes[0], holes[1], holes[2]);
+    Ok(())
+}
+
+fn main() -> Result<(), Refusal> {
+    let mut part = Table::new(8)?;
+    let a = part.cone_over(&[])?; // point 0
+    let b = part.cone_over(&[a])?; // point 1, edge 2 from 0 to 1
+    show("segment", &part)?;
+    let a = part.merge(a, b)?; // edge 2 is a loop at point 0
+    show("ends merged", &part)?;
+    let edge = 2;
+    part.cone_over(&[a, edge])?; // a triangle closes the tunnel
+    show("one cap", &part)?;
+    part.cone_over(&[a, edge])?; // a second one shuts in a void
+    show("two caps", &part)?;
+    // All 8 records are in use.
+    if let Err(refusal) = part.cone_over(&[a, edge]) {
+        println!("a third cap: refused {}", refusal.number());
+    }
+    if let Err(refusal) = part.merge(a, edge) {
+        println!("point with edge: refused {}", refusal.number());
+    }
+    Ok(())
+}

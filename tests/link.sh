@@ -1,0 +1,83 @@
+#!/usr/bin/env bash
+# What a mesher links: the C example as C and as C++, the same example and the tests of the Rust crate, and the installed library through
+# pkg-config. Each example must print examples/c/part.expected to the byte.
+set -eu
+cd "$(dirname "$0")/.."
+missing=()
+for tool in cc:gcc c++:g++ make:make cargo:cargo; do
+    command -v "${tool%:*}" >/dev/null 2>&1 || missing+=("${tool#*:}")
+done
+[ "${#missing[@]}" = 0 ] || { apt-get update && apt-get install -y "${missing[@]}"; } >/dev/null 2>&1
+
+# built FILE COMMAND..: runs the command where the file is not there yet
+built() {
+    local file=$1
+    shift
+    [ -e "$file" ] && return
+    mkdir -p target
+    "$@" >target/link.log 2>&1 && [ -e "$file" ] && return
+    cat target/link.log
+    printf 'link: %s is not there after: %s\n' "$file" "$*"
+    return 1
+}
+
+archive=target/staticlib/libkernel.a
+built "$archive" rt staticlib kernel
+built target/bin/holes rt check holes
+
+place=$(mktemp -d)
+trap 'rm -rf "$place"' EXIT
+expected=examples/c/part.expected
+warnings=(-Wall -Wextra -Wpedantic -Werror)
+
+# prints WORDS COMMAND..: the command must print what is expected
+prints() {
+    local what=$1
+    shift
+    "$@" >"$place/out"
+    diff "$expected" "$place/out" || { printf 'link: %s: output differs\n' "$what"; exit 1; }
+    printf 'link: %s: ok\n' "$what"
+}
+
+cc -std=c99 "${warnings[@]}" -Iinclude examples/c/part.c "$archive" -o "$place/part-c"
+prints 'C' "$place/part-c"
+c++ -std=c++11 "${warnings[@]}" -Iinclude -x c++ examples/c/part.c -x none "$archive" -o "$place/part-cpp"
+prints 'C++' "$place/part-cpp"
+# A mesher's plug-in is a shared library; the archive must be fit for one.
+cc -shared -fPIC -Iinclude examples/c/part.c "$archive" -o "$place/part.so"
+
+export CARGO_TARGET_DIR="$PWD/target/rust"
+( cd rust && BUMBLETURF_LIB="$PWD/../target/staticlib" cargo test --offline --quiet )
+( cd rust && BUMBLETURF_LIB="$PWD/../target/staticlib" cargo build --offline --quiet --example part )
+prints 'Rust' target/rust/debug/examples/part
+
+# An install without the program must say so and leave nothing.
+if make --no-print-directory install DESTDIR="$place/none" PROGRAM="$place/holes" >"$place/said" 2>&1 ||
+    ! grep -q 'holes is not built' "$place/said" || [ -e "$place/none" ]; then
+    cat "$place/said"
+    printf 'link: make install without the program does not stop as it should\n'
+    exit 1
+fi
+
+dest=$place/dest prefix=/opt/bumbleturf
+make --no-print-directory install DESTDIR="$dest" PREFIX="$prefix" >/dev/null
+cmp "$archive" "$dest$prefix/lib/libbumbleturf.a"
+cmp target/bin/holes "$dest$prefix/bin/holes"
+cmp include/bumbleturf.h "$dest$prefix/include/bumbleturf.h"
+cc "${warnings[@]}" examples/c/part.c -I"$dest$prefix/include" -L"$dest$prefix/lib" -lbumbleturf -o "$place/part-installed"
+prints 'installed' "$place/part-installed"
+if command -v pkg-config >/dev/null 2>&1; then
+    # The files lie under DESTDIR and name the prefix; the variable moves them for this test alone.
+    flags=$(PKG_CONFIG_PATH="$dest$prefix/lib/pkgconfig" pkg-config --define-variable=prefix="$dest$prefix" --cflags --libs bumbleturf)
+    # shellcheck disable=SC2086 # several words
+    cc "${warnings[@]}" examples/c/part.c $flags -o "$place/part-pkg"
+    prints 'pkg-config' "$place/part-pkg"
+else
+    printf 'link: pkg-config: not run, there is none on this machine\n'
+fi
+( cd rust && BUMBLETURF_LIB="$dest$prefix/lib" CARGO_TARGET_DIR="$place/rust" cargo build --offline --quiet --example part )
+prints 'Rust, installed' "$place/rust/debug/examples/part"
+make --no-print-directory uninstall DESTDIR="$dest" PREFIX="$prefix" >/dev/null
+left=$(find "$dest" -type f)
+[ -z "$left" ] || { printf 'link: make uninstall leaves %s\n' "$left"; exit 1; }
+printf 'link: make install, make uninstall: ok\n'

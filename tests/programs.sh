@@ -1,0 +1,124 @@
+#!/usr/bin/env bash
+# The program holes as a user runs it: the example files, lengths and Ns at the edges of what it takes, input that comes in pieces, and
+# 2,000 random files against the independent second program.
+set -eu
+cd "$(dirname "$0")/.."
+holes=target/bin/holes
+[ -x "$holes" ] || { printf 'programs: %s is not built; run rt check holes\n' "$holes"; exit 1; }
+place=$(mktemp -d)
+trap 'rm -rf "$place"' EXIT
+run=0 failed=0
+
+# gives WORDS EXPECTED: the program must print the file EXPECTED, to the byte, for the input on standard input
+gives() {
+    local status=0
+    run=$((run + 1))
+    timeout 60 "$holes" >"$place/out" || status=$?
+    # No exit status is promised for a refusal; from 124 on it means that the program hung, was not run, or was killed.
+    if [ "$status" -lt 124 ] && cmp -s "$2" "$place/out"; then return; fi
+    failed=$((failed + 1))
+    printf 'programs: %s: exit status %s, expected and printed:\n' "$1" "$status"
+    diff "$2" "$place/out" || true
+}
+
+# refused NUMBER WORDS: the input on standard input must be refused with the number
+refused() {
+    printf 'refused %s\n' "$1" >"$place/refused"
+    gives "$2" "$place/refused"
+}
+
+# bytes COUNT: that many zero bytes
+bytes() { head -c "$1" /dev/zero; }
+
+# contents LOW HIGH: the table of contents of an empty table with that N, in its two bytes
+contents() {
+    printf '%b' "\\x$1\\x$2"
+    for _ in 0 1 2 3 4 5 6; do printf '\x00\x00\x2c\x00\x00\x00'; done
+}
+
+for sketch in examples/*.sketch; do
+    gives "$sketch" "${sketch%.sketch}.expected" <"$sketch"
+done
+
+printf '%s\n' '0 0 0' '1 0 0' '2 0 0' '3 0 0' '4 0 0' '5 0 0' '6 0 0' >"$place/none"
+contents 00 00 >"$place/0"
+contents 01 00 >"$place/1"
+contents 00 02 >"$place/512"
+contents 01 02 >"$place/513"
+contents ff ff >"$place/65535"
+gives 'N = 1, no cells' "$place/none" <"$place/1"
+gives 'N = 512, no cells' "$place/none" <"$place/512"
+for n in 0 513 65535; do refused 15 "N = $n" <"$place/$n"; done
+
+: >"$place/empty"
+refused 15 'no input' <"$place/empty"
+for length in 1 2 43; do
+    head -c "$length" "$place/1" >"$place/short"
+    refused 15 "$length bytes" <"$place/short"
+done
+{ cat "$place/1"; bytes 1; } >"$place/45"
+refused 15 'one byte after the end' <"$place/45"
+
+# 512 cells of dimension 6 make the longest file there can be: its lengths are right, so it is refused for its table; with one byte more,
+# for its length.
+{
+    printf '\x00\x02'
+    for _ in 0 1 2 3 4 5; do printf '\x00\x00\x2c\x00\x00\x00'; done
+    printf '\x00\x02\x2c\x00\x00\x00'
+    for ((cell = 0; cell < 512; cell++)); do
+        printf '%b' "$(printf '\\x%02x\\x%02x' $((cell % 256)) $((cell / 256)))"
+        printf '\0\0\0\0\0\0\0\0\0\0\0\0\0\0'
+    done
+} >"$place/8236"
+[ "$(wc -c <"$place/8236")" = 8236 ]
+{ cat "$place/8236"; bytes 1; } >"$place/8237"
+{ cat examples/torus.sketch; bytes 1000000; } >"$place/long"
+refused 2 '8236 bytes' <"$place/8236"
+refused 15 '8237 bytes' <"$place/8237"
+refused 15 'a million bytes after an example' <"$place/long"
+
+# A pipe hands over what has come so far; the program must wait for the rest. Process substitution keeps the counts in this shell.
+gives 'the loop in pieces' examples/loop.expected < <(
+    printf '\x02'
+    sleep 0.2
+    printf '\x00\x01\x00\x2c\x00\x00\x00\x01\x00\x2e\x00\x00'
+    sleep 0.2
+    printf '\x00'
+    for _ in 2 3 4 5 6; do printf '\x00\x00\x34\x00\x00\x00'; done
+    sleep 0.2
+    printf '\x00\x00\x01\x00\x00'
+    sleep 0.2
+    printf '\x00\x00\x00'
+)
+gives 'the torus, then a pause' examples/torus.expected < <(cat examples/torus.sketch; sleep 0.3)
+gives 'the torus byte by byte' examples/torus.expected < <(
+    for ((at = 1; at <= $(wc -c <examples/torus.sketch); at++)); do
+        tail -c "+$at" examples/torus.sketch | head -c 1
+    done
+)
+refused 15 'the torus without its last byte, in pieces' < <(
+    head -c 50 examples/torus.sketch
+    sleep 0.2
+    tail -c +51 examples/torus.sketch | head -c 29
+)
+refused 15 '8237 bytes in pieces' < <(
+    head -c 8236 "$place/8237"
+    sleep 0.2
+    tail -c 1 "$place/8237" 2>"$place/ignored" # a program that has seen enough may leave before the last byte
+)
+printf 'programs: %s inputs, %s failed\n' "$run" "$failed"
+
+# tests/second.sh builds it too, but comes later by name: on a fresh copy it is built here.
+second=target/second/release/second
+if [ ! -x "$second" ] && [ -e second/Cargo.toml ]; then
+    command -v cargo >/dev/null 2>&1 || { apt-get update && apt-get install -y cargo; } >/dev/null 2>&1
+    [ -e target/staticlib/libkernel.a ] || rt staticlib kernel >target/staticlib.log 2>&1 || { cat target/staticlib.log; exit 1; }
+    ( export BUMBLETURF_LIB="$PWD/target/staticlib" CARGO_TARGET_DIR="$PWD/target/second"
+      cd second && cargo build --release --offline --quiet )
+fi
+if [ -x "$second" ]; then
+    "$second" program "$holes" || { failed=$((failed + 1)); printf 'programs: random files: FAILED\n'; }
+else
+    printf 'programs: random files: not run, there is no second program\n'
+fi
+[ "$failed" = 0 ]
