@@ -1,5 +1,5 @@
 -- A record that is written whole: before and after.
--- A reader must believe this definition; nothing here is proved.
+-- A reader need not believe this file: the contract of a private function cites it alone.
 use mathlib.Core.Path.{_≡_}
 use mathlib.Core.List.{List}
 use Prim.Native.Nat.{ℕ, _<_}

@@ -1,0 +1,222 @@
+/* The plain version, second part: reducer, checker, writer, reader. Written from the rules for speed, with no proof. */
+#include "plain.h"
+
+#include <string.h>
+
+/* The largest cell of a set, searched from word w down; -1 for the empty set. */
+static inline int largest(const uint64_t *set, int w)
+{
+    for (; w >= 0; w--)
+        if (set[w])
+            return 64 * w + 63 - __builtin_clzll(set[w]);
+    return -1;
+}
+
+/* The reducer for rows of w words, a constant where it matters. Boundaries of finished rows are kept under their largest cell. */
+static inline void reduce(const uint16_t *restrict t, size_t n, size_t w, uint64_t *restrict evidence, uint64_t *restrict additions)
+{
+    uint64_t kept[PL_ROOM][8];
+    uint16_t owner[PL_ROOM];
+    memset(owner, 255, sizeof owner);
+    memset(evidence, 0, n * w * sizeof *evidence);
+    for (size_t c = 0; c < n; c++) {
+        unsigned p = t[8 * c];
+        if (p == PL_FREE)
+            continue;
+        uint64_t *row = evidence + c * w;
+        row[c / 64] = (uint64_t)1 << c % 64;
+        if (p == 0)
+            continue;
+        uint64_t b[8] = {0}, sum[8] = {0}, made = 0;
+        for (unsigned j = 0; j <= p; j++)
+            b[t[8 * c + 1 + j] / 64] ^= (uint64_t)1 << t[8 * c + 1 + j] % 64;
+        int top = largest(b, (int)w - 1);
+        while (top >= 0 && owner[top] != PL_FREE) {
+            const uint64_t *other = evidence + owner[top] * w;
+            for (size_t k = 0; k < w; k++)
+                b[k] ^= kept[top][k];
+            for (size_t k = 0; k < w; k++)
+                sum[k] ^= other[k];
+            made++;
+            top = largest(b, top / 64);
+        }
+        for (size_t k = 0; k < w; k++)
+            row[k] ^= sum[k];
+        additions[p] += made;
+        if (top >= 0) {
+            owner[top] = (uint16_t)c;
+            memcpy(kept[top], b, sizeof b);
+        }
+    }
+}
+
+uint32_t pl_reduce(const uint16_t *restrict t, size_t words, uint64_t *restrict evidence, size_t evidence_words,
+                   uint64_t *restrict additions)
+{
+    size_t n = words / 8, w = (n + 63) / 64;
+    if (!pl_length(words) || evidence_words != n * w)
+        return 1;
+    if (pl_valid(t, words))
+        return 2;
+    memset(additions, 0, 7 * sizeof *additions);
+    if (w == 8)
+        reduce(t, n, 8, evidence, additions);
+    else
+        reduce(t, n, w, evidence, additions);
+    return 0;
+}
+
+uint32_t pl_check(const uint16_t *restrict t, size_t words, const uint64_t *restrict evidence, size_t evidence_words,
+                  uint16_t *restrict cells, uint16_t *restrict holes, uint16_t *restrict row)
+{
+    size_t n = words / 8, w = (n + 63) / 64;
+    if (!pl_length(words) || evidence_words != n * w)
+        return 1;
+    if (pl_valid(t, words))
+        return 2;
+    uint64_t live[7][8] = {{0}}, used[8] = {0};
+    uint16_t count[7] = {0}, rank[8] = {0};
+    for (size_t c = 0; c < n; c++) {
+        unsigned p = t[8 * c];
+        if (p != PL_FREE) {
+            live[p][c / 64] |= (uint64_t)1 << c % 64;
+            count[p]++;
+        }
+    }
+    for (size_t c = 0; c < n; c++) {
+        const uint64_t *set = evidence + c * w;
+        unsigned p = t[8 * c];
+        uint64_t stray = 0;
+        if (p == PL_FREE) {
+            for (size_t k = 0; k < w; k++)
+                stray |= set[k];
+        } else {
+            for (size_t k = 0; k < w; k++)
+                stray |= set[k] & ~live[p][k];
+            for (size_t k = c / 64 + 1; k < w; k++)
+                stray |= set[k];
+            stray |= set[c / 64] >> c % 64 ^ 1;
+        }
+        if (stray) {
+            *row = (uint16_t)c;
+            return 13;
+        }
+        if (p == PL_FREE || p == 0)
+            continue;
+        uint64_t b[8] = {0};
+        for (size_t k = 0; k <= c / 64; k++)
+            for (uint64_t bits = set[k]; bits; bits &= bits - 1) {
+                const uint16_t *face = t + 8 * (64 * k + (size_t)__builtin_ctzll(bits)) + 1;
+                for (unsigned j = 0; j <= p; j++)
+                    b[face[j] / 64] ^= (uint64_t)1 << face[j] % 64;
+            }
+        int top = largest(b, (int)w - 1);
+        if (top < 0)
+            continue;
+        if (used[top / 64] >> top % 64 & 1) {
+            *row = (uint16_t)c;
+            return 14;
+        }
+        used[top / 64] |= (uint64_t)1 << top % 64;
+        rank[p]++;
+    }
+    for (unsigned p = 0; p < 7; p++) {
+        cells[p] = count[p];
+        holes[p] = (uint16_t)(count[p] - rank[p] - rank[p + 1]);
+    }
+    return 0;
+}
+
+static inline void put2(uint8_t *at, unsigned x)
+{
+    at[0] = (uint8_t)x;
+    at[1] = (uint8_t)(x >> 8);
+}
+
+static inline unsigned get2(const uint8_t *at)
+{
+    return at[0] | (unsigned)at[1] << 8;
+}
+
+/* Bytes of one cell of dimension p in a body. */
+static inline size_t entry(unsigned p)
+{
+    return p ? 2 * p + 4 : 2;
+}
+
+uint32_t pl_write(const uint16_t *restrict t, size_t words, uint8_t *restrict target, size_t target_len, size_t *restrict written)
+{
+    if (!pl_length(words))
+        return 1;
+    if (pl_valid(t, words))
+        return 2;
+    size_t n = words / 8, count[7] = {0}, at[7], end = 44;
+    for (size_t c = 0; c < n; c++)
+        if (t[8 * c] != PL_FREE)
+            count[t[8 * c]]++;
+    for (unsigned p = 0; p < 7; p++) {
+        at[p] = end;
+        end += count[p] * entry(p);
+    }
+    if (target_len < end)
+        return 9;
+    put2(target, (unsigned)n);
+    for (unsigned p = 0; p < 7; p++) {
+        put2(target + 2 + 6 * p, (unsigned)count[p]);
+        put2(target + 4 + 6 * p, (unsigned)at[p]);
+        put2(target + 6 + 6 * p, 0);
+    }
+    for (size_t c = 0; c < n; c++) {
+        const uint16_t *r = t + 8 * c;
+        unsigned p = r[0];
+        if (p == PL_FREE)
+            continue;
+        uint8_t *out = target + at[p];
+        put2(out, (unsigned)c);
+        for (unsigned j = 0; p && j <= p; j++)
+            put2(out + 2 + 2 * j, r[1 + j]);
+        at[p] += entry(p);
+    }
+    *written = end;
+    return 0;
+}
+
+uint32_t pl_read(uint16_t *restrict t, size_t words, const uint8_t *restrict file, size_t file_len)
+{
+    if (!pl_length(words))
+        return 1;
+    size_t n = words / 8, end = 44;
+    memset(t, 255, words * sizeof *t);
+    if (file_len < 44 || get2(file) != n)
+        return 15;
+    for (unsigned p = 0; p < 7; p++) {
+        const uint8_t *head = file + 2 + 6 * p;
+        if ((get2(head + 2) | (size_t)get2(head + 4) << 16) != end)
+            return 15;
+        end += get2(head) * entry(p);
+    }
+    if (file_len != end)
+        return 15;
+    uint32_t refusal = 0;
+    const uint8_t *in = file + 44;
+    for (unsigned p = 0; p < 7 && !refusal; p++) {
+        long before = -1;
+        for (size_t i = get2(file + 2 + 6 * p); i; i--) {
+            unsigned c = get2(in);
+            if (c >= n || (long)c <= before || t[8 * c] != PL_FREE) {
+                refusal = 16;
+                break;
+            }
+            before = (long)c;
+            t[8 * c] = (uint16_t)p;
+            for (unsigned j = 0; p && j <= p; j++)
+                t[8 * c + 1 + j] = (uint16_t)get2(in + 2 + 2 * j);
+            in += entry(p);
+        }
+    }
+    if (!refusal && pl_valid(t, words))
+        refusal = 2;
+    if (refusal)
+        memset(t, 255, words * sizeof *t);
+    return refusal;
+}
