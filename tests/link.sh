@@ -59,7 +59,7 @@ if make --no-print-directory install DESTDIR="$place/none" PROGRAM="$place/holes
     exit 1
 fi
 
-dest=$place/dest prefix=/opt/bumbleturf
+dest=$place/dest prefix=/usr/local/bumbleturf
 make --no-print-directory install DESTDIR="$dest" PREFIX="$prefix" >/dev/null
 cmp "$archive" "$dest$prefix/lib/libbumbleturf.a"
 cmp target/bin/holes "$dest$prefix/bin/holes"

@@ -213,6 +213,23 @@ fn case_15(run: Run) -> Verdict {
 }
 
 /// "Comparing sets of faces or corners instead of ordered lists (case 6, and 4 against 5 in case 7)."
+/// The ends of the incidence: a 6-cell that names one 5-cell at its four even places and another at its three odd ones.
+fn incidence_ends(run: Run) -> Verdict {
+    let cells: [(u16, &[u16]); 8] = [
+        (0, &[]),
+        (1, &[0; 2]),
+        (2, &[1; 3]),
+        (3, &[2; 4]),
+        (4, &[3; 5]),
+        (5, &[4; 6]),
+        (6, &[4; 6]),
+        (7, &[5, 6, 5, 6, 5, 6, 5]),
+    ];
+    let mut bench = Bench::on(run, 8, &cells);
+    bench.value(Call::Incidence { cell: 7, face: 5 }, 4)?;
+    bench.value(Call::Incidence { cell: 7, face: 6 }, -3)
+}
+
 fn sets_of_faces(run: Run) -> Verdict {
     case_6(run)?;
     Bench::on(run, 8, TORUS).number(Call::Merge { a: 4, b: 5 }, 6)
@@ -251,7 +268,7 @@ fn own_cell(run: Run) -> Verdict {
 /// A case with its title.
 type Titled = (&'static str, fn(Run) -> Verdict);
 
-pub const ALL: [Titled; 20] = [
+pub const ALL: [Titled; 21] = [
     ("case 1, empty table", case_1),
     ("case 2, loop", case_2),
     ("case 3, segment", case_3),
@@ -267,6 +284,7 @@ pub const ALL: [Titled; 20] = [
     ("case 13, coefficients", case_13),
     ("case 14, dimension 6", case_14),
     ("case 15, freed number above", case_15),
+    ("incidence 4 and -3", incidence_ends),
     ("shortcut 1, sets of faces", sets_of_faces),
     ("shortcut 2, repeated face once", repeated_face),
     ("shortcut 3, faces above the freed number", case_15),
