@@ -61,7 +61,7 @@ fn law_places(p: u16) -> usize
 
 // The first breach of a table of the right length: cell by cell the record, then the face places, then the pairs of the law by j,
 // then l. The label leaves every loop at the first failure. The seven faces are read by value once, and f and e lie inside by
-// then, so the law's reads are plain words.
+// then, so the law's reads are plain words. A part of the audit and no public call: its caller shows the length.
 pub fn first_breach(t: &[u16]) -> Breach
     requires { ⌜ Sized (now t) ⌝ }
     ensures { λ r. ⌜ r ≡ firstBreach (now (t .entry)) ⌝ }

@@ -1,4 +1,5 @@
 // Sets of cell numbers in 64-bit words: bit b of word w stands for the number 64·w + b. Nothing here speaks of tables.
+// These are parts for the crates above, which show what each one asks; none is a public call.
 ghost use mathlib.Core.Path.{_≡_};
 ghost use Prim.Native.Nat.{_*_, _/_, _^_, _≤_, _<_};
 ghost use lib.ListN.{length};

@@ -1,4 +1,5 @@
-// Rows of evidence: the faces of a cell added into a set, and a row's boundary mod 2.
+// Rows of evidence: the faces of a cell added into a set, and a row's boundary mod 2. Both are parts of reducer and checker, which
+// show what each one asks; neither is a public call.
 ghost use mathlib.Core.Path.{_≡_};
 ghost use Prim.Native.Nat.{_≤_, _<_};
 ghost use lib.ListN.{length};

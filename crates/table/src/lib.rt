@@ -1,5 +1,6 @@
 // The table kind: its four numbers, what its calls answer, and the only way into its words. A table is lent as a slice of
-// 16-bit words; every reading function asks that the cell lies inside, and none looks further.
+// 16-bit words; every reading function asks that the cell lies inside, and none looks further. Those are parts for
+// the crates above, which show what each one asks; no public call is here.
 ghost use mathlib.Core.Path.{_≡_};
 ghost use Prim.Native.Nat.{_+_, _*_, _≤_, _<_};
 ghost use lib.ListN.{length};
