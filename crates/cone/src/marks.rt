@@ -1,5 +1,5 @@
 // What is asked of the marks beside their length: each marks a live cell, every face of a marked cell is marked, and none marks a
-// cell of the top dimension. Each test goes through the numbers and stops at the first fault.
+// cell of the top dimension. Each test goes through the numbers and stops at the first fault. Parts of the call, seen in this crate alone.
 ghost use mathlib.Core.Path.{_≡_};
 ghost use Prim.Native.Nat.{_≤_, _<_};
 ghost use lib.ListN.{length};

@@ -1,5 +1,5 @@
 // The numbers of the new cells: first the free numbers of the table in rising order, then the one that the cone over each marked
-// cell takes. All are fixed before a face is written.
+// cell takes. All are fixed before a face is written. Parts of the call, seen in this crate alone.
 ghost use mathlib.Core.Path.{_≡_};
 ghost use Prim.Native.Nat.{_≤_};
 ghost use lib.ListN.{length};

@@ -1,5 +1,5 @@
 // The new cells are written: a cone over each marked cell, by rising number, and the apex. Records of live cells are never written, so
-// the old faces are read from the table itself.
+// the old faces are read from the table itself. A part of the call, seen in this crate alone.
 ghost use mathlib.Core.Path.{_≡_};
 ghost use Prim.Native.Nat.{ℕ, suc, _≤_, _<_};
 ghost use lib.ListN.{length, getD};

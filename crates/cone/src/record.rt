@@ -1,4 +1,4 @@
-// One record of a lent table, written whole or at one face. Only these functions write words.
+// One record of a lent table, written whole or at one face. Only these functions write words. Seen in this crate alone.
 ghost use Prim.Native.Nat.{_<_};
 ghost use lib.ListN.{getD};
 ghost use lib.Dec.{eqb};
