@@ -21,7 +21,7 @@ use Rattle.audit.proofs.Places.{used-says}
 use Rattle.counting.specs.Counting.{howMany}
 use Rattle.cone.specs.Cone.{free, apexOf, coneOf, baseOf, newCells, coneFace, given, coned, coneVerdict}
 use Rattle.building.specs.ConeRule.{Earlier, IsCone}
-use Rattle.counting.proofs.Counting.{true-or-false}
+use Rattle.table.proofs.Cases.{true-or-false}
 use Rattle.cone.proofs.Acceptance.{Accepts, cone-accepted}
 use Rattle.cone.proofs.GivenNumbers.{free-inside, live-not-free, apex-is-free, apex-is-lowest, apex-given, cone-is-free, cone-given, apex-below-cone, cones-rise, base-of-cone, base-marked, cone-of-base, below-given, base-before}
 

@@ -19,7 +19,8 @@ use Rattle.table.proofs.Words.{length-tableOf, dim-tableOf, face-tableOf, table
 use Rattle.counting.specs.Counting.{howMany}
 use Rattle.cone.specs.Cone.{free, apexOf, coneOf, baseOf, newCells, coneFace, given, coned}
 use Rattle.cone.specs.Record.{Stored}
-use Rattle.counting.proofs.Counting.{below-or-not, howMany-zero, howMany-yes-more, howMany-no-more, same-rank}
+use Rattle.table.proofs.Cases.{below-or-not}
+use Rattle.counting.proofs.Counting.{howMany-zero, howMany-yes-more, howMany-no-more, same-rank}
 use Rattle.cone.proofs.Acceptance.{Accepts}
 use Rattle.cone.proofs.GivenNumbers.{free-inside, live-not-free, apex-is-free, apex-rank, apex-given, cone-is-free, cone-rank, apex-below-cone, base-of-cone}
 

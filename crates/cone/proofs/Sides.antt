@@ -14,7 +14,7 @@ use Rattle.table.specs.Kind.{capacity, top, faces, freeMark, pick, used}
 use Rattle.table.specs.Table.{dim, face, facesOf}
 use Rattle.cone.specs.Record.{Stored}
 use Rattle.cone.specs.Parts.{overFace}
-use Rattle.counting.proofs.Counting.{below-or-not}
+use Rattle.table.proofs.Cases.{below-or-not}
 use Rattle.cone.proofs.Stores.{seven, seven-at, face-at}
 
 -- ---- the first j side words of record c of u are written, in v

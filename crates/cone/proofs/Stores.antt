@@ -14,7 +14,7 @@ use lib.Seq.{getD-set-same, getD-set-other}
 use Rattle.table.specs.Kind.{faces, width, pick}
 use Rattle.table.specs.Table.{cellsOf, dim, face, facesOf}
 use Rattle.cone.specs.Record.{Stored}
-use Rattle.counting.proofs.Counting.{below-or-not}
+use Rattle.table.proofs.Cases.{below-or-not}
 
 -- the words vs stored from place at + k on
 abbrev pub run : List ℕ → ℕ → ℕ → List ℕ → List ℕ

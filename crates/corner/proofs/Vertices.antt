@@ -6,19 +6,13 @@ use mathlib.Core.Bool.{Bool, true, false}
 use mathlib.Core.List.{List}
 use Prim.Native.Nat.{ℕ, zero, suc, _-_, _≤_, _<_}
 use native.Mathlib.Omega.{arith}
-use borrow.Author.Tests.{lt-ltb, le-ltb, ltb-true, ltb-false}
+use borrow.Author.Tests.{lt-ltb, le-ltb}
 use lib.Dec.{ltb}
 use Rattle.table.specs.Kind.{pick}
 use Rattle.table.specs.Table.{dim, face, Live, Valid}
+use Rattle.table.proofs.Cases.{below-or-not}
 use Rattle.corner.specs.Corner.{cornerOf}
 use Rattle.corner.proofs.Corners.{face-lives, face-level, corner-lower, corner-last}
-
-below-or-not : (k n : ℕ) → (k < n) ⊎ (n ≤ k)
-below-or-not k n = go (ltb k n) refl
-  where
-    go : (b : Bool) → ltb k n ≡ b → (k < n) ⊎ (n ≤ k)
-    go true e = inl (ltb-true k n e)
-    go false e = inr (ltb-false k n e)
 
 -- corner k of face j, as a corner of the cell
 Vertex : List ℕ → ℕ → ℕ → ℕ → Type 0

@@ -7,23 +7,11 @@ use Prim.Native.Nat.{ℕ, zero, suc, _+_, _≤_, _<_}
 use native.Mathlib.Nat.{not-suc-le-zero, le-of-suc-le-suc, eq-or-lt-of-le}
 use native.Mathlib.Numerals.{add-one}
 use native.Mathlib.Omega.{arith}
-use borrow.Author.Tests.{eq-eqb, ne-eqb, ltb-true, ltb-false}
-use lib.Dec.{eqb, ltb}
+use borrow.Author.Tests.{eq-eqb, ne-eqb}
+use lib.Dec.{eqb}
 use Rattle.table.specs.Kind.{pick}
+use Rattle.table.proofs.Cases.{below-or-not, true-or-false}
 use Rattle.counting.specs.Counting.{howMany, nth, someHas}
-
--- of two numbers the first is below the second, or not
-pub below-or-not : (k n : ℕ) → (k < n) ⊎ (n ≤ k)
-below-or-not k n = go (ltb k n) refl
-  where
-    go : (b : Bool) → ltb k n ≡ b → (k < n) ⊎ (n ≤ k)
-    go true e = inl (ltb-true k n e)
-    go false e = inr (ltb-false k n e)
-
--- a test holds, or it fails
-pub true-or-false : (b : Bool) → (b ≡ true) ⊎ (b ≡ false)
-true-or-false true = inl refl
-true-or-false false = inr refl
 
 module _ (f : ℕ → Bool) where
   -- howMany: at the start, at a number that has f, and at one that has not

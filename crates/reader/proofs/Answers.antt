@@ -18,7 +18,7 @@ use Rattle.table.specs.declared.Refusal.{Refusal}
 use Rattle.table.specs.declared.Refusal.the-variants.{Length, Invalid, BadContents, BadNumber}
 use Rattle.table.specs.declared.Verdict.{Verdict}
 use Rattle.table.specs.declared.Verdict.the-variants.{Accepted, Refused}
-use Rattle.counting.proofs.Counting.{true-or-false}
+use Rattle.table.proofs.Cases.{true-or-false}
 use Rattle.audit.specs.Empty.{emptied, emptyLeaves}
 use Rattle.audit.proofs.Sizes.{sized-is-sized, no-cells, some-cells}
 use Rattle.table.proofs.Records.{sized-cells-is}

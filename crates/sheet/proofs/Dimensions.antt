@@ -9,7 +9,8 @@ use native.Mathlib.Nat.{not-suc-le-zero, le-of-suc-le-suc, eq-or-lt-of-le, le-ma
 use native.Mathlib.Numerals.{add-one}
 use native.Mathlib.Omega.{arith}
 use Rattle.counting.specs.Counting.{someHas}
-use Rattle.counting.proofs.Counting.{below-or-not, true-or-false, someHas-at, someHas-each}
+use Rattle.table.proofs.Cases.{below-or-not, true-or-false}
+use Rattle.counting.proofs.Counting.{someHas-at, someHas-each}
 use Rattle.table.specs.Kind.{top, faces, pick}
 use Rattle.table.specs.Table.{cellsOf, dim, live}
 use Rattle.table.proofs.Records.{live-says, live-true}

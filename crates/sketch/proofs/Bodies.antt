@@ -10,7 +10,8 @@ use borrow.Author.Tests.{eq-eqb, ne-eqb, eqb-true}
 use lib.Dec.{eqb}
 use Rattle.table.specs.Kind.{freeMark, pick}
 use Rattle.counting.specs.Counting.{howMany, nth, someHas}
-use Rattle.counting.proofs.Counting.{true-or-false, howMany-strict, nth-has, someHas-at, someHas-one, someHas-none}
+use Rattle.table.proofs.Cases.{true-or-false}
+use Rattle.counting.proofs.Counting.{howMany-strict, nth-has, someHas-at, someHas-one, someHas-none}
 use Rattle.sketch.specs.Form.{dimensions}
 use Rattle.sketch.specs.Read.{countIn, numberIn, inBody, dimIn, placeIn}
 use Rattle.sketch.proofs.Fits.{Numbered}

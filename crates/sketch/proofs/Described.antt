@@ -14,7 +14,8 @@ use Rattle.table.specs.Table.{cellsOf, dim, face, Sized}
 use Rattle.table.specs.Words.{wordOf, tableOf}
 use Rattle.table.proofs.Words.{length-tableOf, cellsOf-tableOf, dim-tableOf, face-tableOf, getD-listed}
 use Rattle.counting.specs.Counting.{howMany, nth, someHas}
-use Rattle.counting.proofs.Counting.{below-or-not, nth-below, nth-none}
+use Rattle.table.proofs.Cases.{below-or-not}
+use Rattle.counting.proofs.Counting.{nth-below, nth-none}
 use Rattle.audit.proofs.Places.{used-fits}
 use Rattle.sketch.specs.Form.{dimensions}
 use Rattle.sketch.specs.Read.{countIn, numberIn, faceIn, inBody, dimIn, placeIn, described}

@@ -7,7 +7,8 @@ use mathlib.Core.Logic.{⊎-elim}
 use Prim.Native.Nat.{ℕ, zero, suc}
 use Rattle.table.specs.Kind.{pick}
 use Rattle.counting.specs.Counting.{howMany, nth}
-use Rattle.counting.proofs.Counting.{true-or-false, howMany-zero, howMany-yes, howMany-no, nth-here, nth-suc}
+use Rattle.table.proofs.Cases.{true-or-false}
+use Rattle.counting.proofs.Counting.{howMany-zero, howMany-yes, howMany-no, nth-here, nth-suc}
 use Rattle.sketch.specs.Form.{pieces}
 use Rattle.sketch.proofs.Pieces.{pieces-zero, pieces-suc, pieces-cong}
 

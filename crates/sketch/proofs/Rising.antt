@@ -7,7 +7,8 @@ use Prim.Native.Nat.{ℕ, zero, suc, _≤_, _<_}
 use native.Mathlib.Nat.{not-suc-le-zero, le-of-suc-le-suc, eq-or-lt-of-le}
 use native.Mathlib.Omega.{arith}
 use Rattle.counting.specs.Counting.{howMany, nth}
-use Rattle.counting.proofs.Counting.{below-or-not, true-or-false, howMany-zero, howMany-yes, howMany-no, rank-nth}
+use Rattle.table.proofs.Cases.{below-or-not, true-or-false}
+use Rattle.counting.proofs.Counting.{howMany-zero, howMany-yes, howMany-no, rank-nth}
 
 -- where no number has the property the count stands still
 pub howMany-still : (h : ℕ → Bool) (m n : ℕ) → m ≤ n → ((c : ℕ) → m ≤ c → c < n → h c ≡ false) → howMany h n ≡ howMany h m

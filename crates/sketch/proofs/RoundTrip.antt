@@ -16,7 +16,7 @@ use Rattle.table.specs.Calls.{onVerdict}
 use Rattle.table.specs.Numbers.{numberOf}
 use Rattle.table.specs.declared.Verdict.{Verdict}
 use Rattle.table.specs.declared.Verdict.the-variants.{Accepted}
-use Rattle.counting.proofs.Counting.{below-or-not}
+use Rattle.table.proofs.Cases.{below-or-not}
 use Rattle.audit.proofs.Places.{used-says}
 use Rattle.audit.proofs.Sizes.{sized-says}
 use Rattle.audit.proofs.Valid.{valid-is-sound}

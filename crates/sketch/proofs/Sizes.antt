@@ -11,7 +11,8 @@ use lib.ListN.{length}
 use Rattle.table.specs.Kind.{capacity, top, pick}
 use Rattle.table.specs.Table.{cellsOf, dim, face, Sized}
 use Rattle.counting.specs.Counting.{howMany}
-use Rattle.counting.proofs.Counting.{true-or-false, howMany-zero, howMany-yes, howMany-no}
+use Rattle.table.proofs.Cases.{true-or-false}
+use Rattle.counting.proofs.Counting.{howMany-zero, howMany-yes, howMany-no}
 use Rattle.audit.proofs.Places.{used-fits}
 use Rattle.sketch.specs.Form.{total, dimensions, contentsSize, recordSize, bodyStart}
 use Rattle.sketch.specs.Written.{isCell, countOf, cellBytes, bodyOf, contentsOf, fileOf}

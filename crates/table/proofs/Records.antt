@@ -3,9 +3,9 @@
 use mathlib.Core.Path.{_≡_, refl, ap, _∙_}
 use mathlib.Core.Bool.{Bool, true, false, _&&_, false≢true}
 use mathlib.Core.List.{List}
-use Prim.Native.Nat.{ℕ, zero, suc, _%_, _<_}
+use Prim.Native.Nat.{ℕ, zero, suc, _%_, _≤_, _<_}
 use native.Mathlib.Omega.{arith}
-use borrow.Author.Tests.{eq-eqb, le-leb, lt-ltb, leb-true, ltb-true}
+use borrow.Author.Tests.{eq-eqb, le-leb, lt-ltb, le-ltb, leb-true, ltb-true}
 use lib.Dec.{leb, ltb}
 use lib.ListN.{length, getD}
 use Rattle.table.specs.Kind.{capacity, top, faces, width}
@@ -24,6 +24,15 @@ live-true t c e =
 pub live-says : (t : List ℕ) (c : ℕ) → Live t c → live t c ≡ true
 unfolding live
 live-says t c h = rw (lt-ltb c (cellsOf t) (h .inside), le-leb (dim t c) top (h .low))
+
+-- the test of a cell, as the code takes it
+pub outside-dead : (t : List ℕ) (c : ℕ) → cellsOf t ≤ c → false ≡ live t c
+unfolding live
+outside-dead t c h = rw (le-ltb c (cellsOf t) h)
+
+pub inside-live : (t : List ℕ) (c p : ℕ) → c < cellsOf t → p ≡ dim t c → leb p top ≡ live t c
+unfolding live
+inside-live t c p h e = simp (lt-ltb c (cellsOf t) h, e)
 
 pub sized-cells-is : (t : List ℕ) → Sized t → sizedCells t ≡ cellsOf t
 sized-cells-is t s = simp (eq-eqb (length t % width) 0 (omega (arith, s .whole)), le-leb (cellsOf t) capacity (s .room))

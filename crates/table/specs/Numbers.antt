@@ -22,21 +22,21 @@ numberOf (RuleB c) = 14
 numberOf BadContents = 15
 numberOf BadNumber = 16
 
--- the cell that a refusal names, and 0 where it names none
-abbrev pub cellNamed : Refusal → ℕ
-cellNamed Length = 0
-cellNamed Invalid = 0
-cellNamed NotLive = 0
-cellNamed SameCell = 0
-cellNamed DimensionsDiffer = 0
-cellNamed FacesDiffer = 0
-cellNamed NotClosed = 0
-cellNamed TopMarked = 0
-cellNamed NoRoom = 0
-cellNamed TooLarge = 0
-cellNamed Misplaced = 0
-cellNamed NoSuchPlace = 0
-cellNamed (RuleA c) = c
-cellNamed (RuleB c) = c
-cellNamed BadContents = 0
-cellNamed BadNumber = 0
+-- the row that rules A and B name, and otherwise what stood there
+abbrev pub rowNamed : Refusal → ℕ → ℕ
+rowNamed Length old = old
+rowNamed Invalid old = old
+rowNamed NotLive old = old
+rowNamed SameCell old = old
+rowNamed DimensionsDiffer old = old
+rowNamed FacesDiffer old = old
+rowNamed NotClosed old = old
+rowNamed TopMarked old = old
+rowNamed NoRoom old = old
+rowNamed TooLarge old = old
+rowNamed Misplaced old = old
+rowNamed NoSuchPlace old = old
+rowNamed (RuleA c) old = c
+rowNamed (RuleB c) old = c
+rowNamed BadContents old = old
+rowNamed BadNumber old = old

@@ -1,12 +1,15 @@
 // The table kind: its four numbers, what its calls answer, and the only way into its words. A table is lent as a slice of
-// 16-bit words; every reading function asks that the cell lies inside, and none looks further. Those are parts for
+// 16-bit words; a function that reads or writes a record asks that it lies inside, and none looks further. Those are parts for
 // the crates above, which show what each one asks; no public call is here.
 ghost use mathlib.Core.Path.{_≡_};
 ghost use Prim.Native.Nat.{_+_, _*_, _≤_, _<_};
-ghost use lib.ListN.{length};
-ghost use Rattle.table.specs.Kind.{capacity, top, faces, width, freeMark, used};
-ghost use Rattle.table.specs.Table.{cellsOf, dim as dimOf, face as faceOf, facesOf, sizedCells};
-ghost use Rattle.table.specs.Numbers.{numberOf, cellNamed};
+ghost use lib.ListN.{length, getD};
+ghost use lib.Dec.{eqb};
+ghost use Rattle.table.specs.Kind.{capacity, top, faces, width, freeMark, pick, used};
+ghost use Rattle.table.specs.Table.{cellsOf, dim as dimOf, face as faceOf, facesOf, sizedCells, live as liveIn};
+ghost use Rattle.table.specs.Numbers.{numberOf, rowNamed};
+ghost use Rattle.table.specs.Calls.{Ends};
+ghost use Rattle.table.specs.Stores.{Stored};
 
 // Why a call is refused: one case for each number of the published list. The two rules of evidence name the row at fault.
 pub enum Refusal {
@@ -48,9 +51,9 @@ pub enum Breach {
     Law(usize, usize, usize),
 }
 
-// The number that the published list gives a refusal.
-pub fn number(r: Refusal) -> u32
-    ensures { λ n. ⌜ n ≡ numberOf r ⌝ }
+// The number that the published list gives a refusal; the row that a rule of evidence names goes to `row`, which else stays.
+pub fn name_row(r: Refusal, row: &mut u16) -> u32
+    ensures { λ n. ⌜ Ends (numberOf r) (rowNamed r (now (row .entry))) n (now (row .exit)) ⌝ }
 {
     match r {
         Refusal::Length => 1,
@@ -65,11 +68,25 @@ pub fn number(r: Refusal) -> u32
         Refusal::TooLarge => 10,
         Refusal::Misplaced => 11,
         Refusal::NoSuchPlace => 12,
-        Refusal::RuleA(_) => 13,
-        Refusal::RuleB(_) => 14,
+        Refusal::RuleA(a) => {
+            *row = a;
+            13
+        }
+        Refusal::RuleB(b) => {
+            *row = b;
+            14
+        }
         Refusal::BadContents => 15,
         Refusal::BadNumber => 16,
     }
+}
+
+// The number alone.
+pub fn number(r: Refusal) -> u32
+    ensures { λ n. ⌜ n ≡ numberOf r ⌝ }
+{
+    let mut row = 0;
+    name_row(r, &mut row)
 }
 
 // The shape of a lent table: how many cells it has room for.
@@ -99,6 +116,13 @@ impl Table {
             }
         }
         Table { cells: 0 }
+    }
+
+    // How many records the words hold, whether their number is that of a table or not.
+    pub fn room(t: &[u16]) -> usize
+        ensures { λ r. ⌜ r ≡ cellsOf (now (t .entry)) ⌝ }
+    {
+        t.len() / Table::WORDS
     }
 
     // How many face words a record with this word 0 uses.
@@ -145,6 +169,39 @@ impl Table {
             t[at + 6],
             t[at + 7],
         ]
+    }
+
+    // Whether c is a live cell.
+    pub fn live(t: &[u16], c: usize) -> bool
+        ensures { λ r. ⌜ r ≡ liveIn (now (t .entry)) c ⌝ }
+    {
+        if c < Table::room(t) {
+            return Table::dim(t, c) <= Table::TOP;
+        }
+        false
+    }
+
+    // Writes face j of record c, and nothing else.
+    pub fn put_face(t: &mut [u16], c: usize, j: usize, x: u16)
+        requires { ⌜ (c < cellsOf (now t)) × (j < faces) ⌝ }
+        ensures { λ _. ⌜ Stored c (dimOf (now (t .entry)) c) (λ l. pick (eqb l j) x (faceOf (now (t .entry)) c l)) (now (t .entry)) (now (t .exit)) ⌝ }
+    {
+        let at = c * Table::WORDS;
+        t[at + (1 + j)] = x;
+    }
+
+    // Writes the dimension p and the seven face words f into record c, and nothing else.
+    pub fn put(t: &mut [u16], c: usize, p: u16, f: [u16; Table::FACES])
+        requires { ⌜ c < cellsOf (now t) ⌝ }
+        ensures { λ _. ⌜ Stored c p (λ j. getD f j 0) (now (t .entry)) (now (t .exit)) ⌝ }
+    {
+        let mut j = 0;
+        while j < Table::FACES {
+            Table::put_face(t, c, j, f[j]);
+            j += 1;
+        }
+        let at = c * Table::WORDS;
+        t[at] = p;
     }
 }
 

@@ -12,7 +12,8 @@ use lib.Seq.{getD-set-same, getD-set-other}
 use lib.Dec.{eqb}
 use Rattle.table.specs.Table.{cellsOf, dim}
 use Rattle.counting.specs.Counting.{howMany}
-use Rattle.counting.proofs.Counting.{true-or-false, howMany-zero, howMany-yes-more, howMany-no-more, howMany-most}
+use Rattle.table.proofs.Cases.{true-or-false}
+use Rattle.counting.proofs.Counting.{howMany-zero, howMany-yes-more, howMany-no-more, howMany-most}
 use Rattle.sketch.specs.Form.{dimensions}
 use Rattle.sketch.specs.Written.{isCell, countOf}
 use Rattle.writer.specs.Put.{Counted}
