@@ -8,7 +8,7 @@ use lib.ListN.{replicate}
 use Rattle.homology.specs.Evidence.{cellsIn, holesIn}
 use Rattle.table.specs.Calls.{Ends}
 use Rattle.table.specs.Words.{listed}
-use Rattle.table.specs.Numbers.{numberOf}
+use Rattle.table.specs.Numbers.{numberOf, rowNamed}
 use Rattle.table.specs.declared.Refusal.{Refusal}
 use Rattle.table.specs.declared.Verdict.{Verdict}
 use Rattle.table.specs.declared.Verdict.the-variants.{Accepted, Refused}
@@ -19,16 +19,16 @@ use Rattle.checker.specs.declared.Checked.{Checked}
 use Rattle.reducer.specs.Reduce.{Reduces, Reduction, reduceVerdict}
 use Rattle.reducer.specs.declared.Reduced.{Reduced}
 use Rattle.writer.specs.declared.Written.{Written}
-use Rattle.kernel.specs.Face.{code, writtenCode, writtenValue, sevenAfter, rowValue, rowAfter, Answers, Fills, CheckEnds, ReduceEnds}
+use Rattle.kernel.specs.Face.{code, writtenCode, writtenValue, sevenAfter, rowAfter, Fills, CheckEnds, ReduceEnds}
 
 -- a verdict's code
 pub coded : {B : Type 0} {v w : Verdict} {b l : B} {r : ℕ} → Ends v b w l → r ≡ code w → Ends (code v) b r l
 coded e q = record { answer = q ∙ ap code (e .answer); left = e .left }
 
 -- the answer a of a call is a′: its code and its value
-pub told : {A B : Type 0} (codeOf : A → ℕ) (valueOf : A → B → B) (a a′ : A) (old v : B) (r : ℕ) → a ≡ a′ → r ≡ codeOf a′ → v ≡ valueOf a′ old → Answers (codeOf a) (valueOf a old) r v
+pub told : {A B : Type 0} (codeOf : A → ℕ) (valueOf : A → B → B) (a a′ : A) (old v : B) (r : ℕ) → a ≡ a′ → r ≡ codeOf a′ → v ≡ valueOf a′ old → Ends (codeOf a) (valueOf a old) r v
 told codeOf valueOf a a′ old v r e q w =
-    record { answer = q ∙ sym (ap codeOf e); told = w ∙ sym (ap (λ x. valueOf x old) e) }
+    record { answer = q ∙ sym (ap codeOf e); left = w ∙ sym (ap (λ x. valueOf x old) e) }
 
 -- the same with the buffer that the call left
 pub filled : {A : Type 0} (codeOf : A → ℕ) (valueOf : A → ℕ → ℕ) (a a′ : A) (old v r : ℕ) (left l : List ℕ) → Ends a left a′ l → r ≡ codeOf a′ → v ≡ valueOf a′ old → Fills (codeOf a) left (valueOf a old) r l v
@@ -73,12 +73,12 @@ module _ (t ev : List ℕ) (r : Checked) (h : Checks t ev r) (cells₀ holes₀ 
         row-told = sym (ap (λ w. rowAfter w row₀) v);
       }
 
-  pub check-refused : (x : Refusal) (n row₁ : ℕ) → r .verdict ≡ Refused x → Answers (numberOf x) (rowValue x row₀) n row₁ → CheckEnds t ev cells₀ holes₀ row₀ n cells₀ holes₀ row₁
+  pub check-refused : (x : Refusal) (n row₁ : ℕ) → r .verdict ≡ Refused x → Ends (numberOf x) (rowNamed x row₀) n row₁ → CheckEnds t ev cells₀ holes₀ row₀ n cells₀ holes₀ row₁
   check-refused x n row₁ e a =
       let v : checkVerdict t ev ≡ Refused x = sym (h .verdict-is) ∙ e in
       record {
         answer = a .answer ∙ sym (ap code v);
         cells-told = sym (ap (λ w. sevenAfter w (listed 7 (cellsIn (cells t))) cells₀) v);
         holes-told = sym (ap (λ w. sevenAfter w (listed 7 (holesIn (cells t) (rows t ev))) holes₀) v);
-        row-told = a .told ∙ sym (ap (λ w. rowAfter w row₀) v);
+        row-told = a .left ∙ sym (ap (λ w. rowAfter w row₀) v);
       }

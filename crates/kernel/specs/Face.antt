@@ -5,7 +5,7 @@ use mathlib.Core.Path.{_≡_}
 use mathlib.Core.List.{List}
 use Prim.Native.Nat.{ℕ}
 use lib.IntN.{ℤ}
-use Rattle.table.specs.Numbers.{numberOf}
+use Rattle.table.specs.Numbers.{numberOf, rowNamed}
 use Rattle.table.specs.Words.{listed}
 use Rattle.homology.specs.Evidence.{cellsIn, holesIn}
 use Rattle.complex.specs.Cells.{cells}
@@ -13,7 +13,6 @@ use Rattle.rows.specs.Rows.{rows}
 use Rattle.checker.specs.Check.{checkVerdict}
 use Rattle.reducer.specs.Reduce.{Reduction, reduceVerdict}
 use Rattle.table.specs.declared.Refusal.{Refusal}
-use Rattle.table.specs.declared.Refusal.the-variants.{Length, Invalid, NotLive, SameCell, DimensionsDiffer, FacesDiffer, NotClosed, TopMarked, NoRoom, TooLarge, Misplaced, NoSuchPlace, RuleA, RuleB, BadContents, BadNumber}
 use Rattle.table.specs.declared.Verdict.{Verdict}
 use Rattle.table.specs.declared.Verdict.the-variants.{Accepted, Refused}
 use Rattle.table.specs.declared.Named.{Named}
@@ -70,34 +69,10 @@ abbrev pub sevenAfter : Verdict → List ℕ → List ℕ → List ℕ
 sevenAfter Accepted new old = new
 sevenAfter (Refused r) new old = old
 
--- the row that rules A and B name, and otherwise what stood there
-abbrev pub rowValue : Refusal → ℕ → ℕ
-rowValue Length old = old
-rowValue Invalid old = old
-rowValue NotLive old = old
-rowValue SameCell old = old
-rowValue DimensionsDiffer old = old
-rowValue FacesDiffer old = old
-rowValue NotClosed old = old
-rowValue TopMarked old = old
-rowValue NoRoom old = old
-rowValue TooLarge old = old
-rowValue Misplaced old = old
-rowValue NoSuchPlace old = old
-rowValue (RuleA c) old = c
-rowValue (RuleB c) old = c
-rowValue BadContents old = old
-rowValue BadNumber old = old
-
 -- the row behind its pointer afterwards: written with 13 and 14 alone
 abbrev pub rowAfter : Verdict → ℕ → ℕ
 rowAfter Accepted old = old
-rowAfter (Refused r) old = rowValue r old
-
--- a call that answers r and leaves v behind the value's pointer
-pub record Answers {A : Type 0} (code : ℕ) (value : A) (r : ℕ) (v : A) : Type 0 where
-  pub answer : r ≡ code
-  pub told : v ≡ value
+rowAfter (Refused r) old = rowNamed r old
 
 -- a call that answers r, leaves l in its buffer and v behind the value's pointer
 pub record Fills (code : ℕ) (left : List ℕ) (value r : ℕ) (l : List ℕ) (v : ℕ) : Type 0 where

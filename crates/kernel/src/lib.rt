@@ -3,7 +3,6 @@
 ghost use mathlib.Core.Path.{_≡_};
 ghost use Prim.Native.Nat.{ℕ};
 ghost use Rattle.table.specs.Calls.{verdict, Ends};
-ghost use Rattle.table.specs.Numbers.{numberOf};
 ghost use Rattle.table.specs.Audit.{auditGrounds};
 ghost use Rattle.audit.specs.Empty.{emptyVerdict, emptyLeaves};
 ghost use Rattle.merge.specs.Merge.{mergeAnswer, mergeLeaves};
@@ -14,11 +13,10 @@ ghost use Rattle.corner.specs.Corner.{cornerAnswer};
 ghost use Rattle.sheet.specs.Sheet.{sheetAnswer};
 ghost use Rattle.writer.specs.Write.{writeAnswer, writeLeaves};
 ghost use Rattle.sketch.specs.Read.{readVerdict, readLeaves};
-ghost use Rattle.kernel.specs.Face.{code, namedCode, namedValue, sumCode, sumValue, judgedCode, judgedValue, writtenCode, writtenValue, rowValue, Answers, Fills, CheckEnds, ReduceEnds};
+ghost use Rattle.kernel.specs.Face.{code, namedCode, namedValue, sumCode, sumValue, judgedCode, judgedValue, writtenCode, writtenValue, Fills, CheckEnds, ReduceEnds};
 use reading::Sum;
 use sheet::Judged;
 use table::Named;
-use table::Refusal;
 use table::Verdict;
 use writer::Written;
 
@@ -34,7 +32,7 @@ fn code_of(v: Verdict) -> u32
 
 // The code of an answer that names a cell, which goes to `value`.
 fn name_cell(n: Named, value: &mut u16) -> u32
-    ensures { λ r. ⌜ Answers (namedCode n) (namedValue n (now (value .entry))) r (now (value .exit)) ⌝ }
+    ensures { λ r. ⌜ Ends (namedCode n) (namedValue n (now (value .entry))) r (now (value .exit)) ⌝ }
 {
     match n {
         Named::Cell(c) => {
@@ -42,36 +40,6 @@ fn name_cell(n: Named, value: &mut u16) -> u32
             0
         }
         Named::NoCell(r) => table::number(r),
-    }
-}
-
-// The refusal's number; the row that rules A and B name goes to `row`.
-fn name_row(r: Refusal, row: &mut u16) -> u32
-    ensures { λ n. ⌜ Answers (numberOf r) (rowValue r (now (row .entry))) n (now (row .exit)) ⌝ }
-{
-    match r {
-        Refusal::Length => 1,
-        Refusal::Invalid => 2,
-        Refusal::NotLive => 3,
-        Refusal::SameCell => 4,
-        Refusal::DimensionsDiffer => 5,
-        Refusal::FacesDiffer => 6,
-        Refusal::NotClosed => 7,
-        Refusal::TopMarked => 8,
-        Refusal::NoRoom => 9,
-        Refusal::TooLarge => 10,
-        Refusal::Misplaced => 11,
-        Refusal::NoSuchPlace => 12,
-        Refusal::RuleA(c) => {
-            *row = c;
-            13
-        }
-        Refusal::RuleB(c) => {
-            *row = c;
-            14
-        }
-        Refusal::BadContents => 15,
-        Refusal::BadNumber => 16,
     }
 }
 
@@ -105,7 +73,7 @@ pub extern "C" fn bt_merge(table: &mut [u16], a: u16, b: u16, kept: &mut u16) ->
 
 #[no_mangle]
 pub extern "C" fn bt_incidence(table: &[u16], cell: u16, face: u16, sum: &mut i64) -> u32
-    ensures { λ r. ⌜ Answers (sumCode (incidenceAnswer (now (table .entry)) cell face)) (sumValue (incidenceAnswer (now (table .entry)) cell face) (now (sum .entry))) r (now (sum .exit)) ⌝ }
+    ensures { λ r. ⌜ Ends (sumCode (incidenceAnswer (now (table .entry)) cell face)) (sumValue (incidenceAnswer (now (table .entry)) cell face) (now (sum .entry))) r (now (sum .exit)) ⌝ }
 {
     let answer = reading::incidence(table, cell, face);
     match answer {
@@ -131,14 +99,14 @@ pub extern "C" fn bt_boundary(
 
 #[no_mangle]
 pub extern "C" fn bt_corner(table: &[u16], cell: u16, k: u16, corner: &mut u16) -> u32
-    ensures { λ r. ⌜ Answers (namedCode (cornerAnswer (now (table .entry)) cell k)) (namedValue (cornerAnswer (now (table .entry)) cell k) (now (corner .entry))) r (now (corner .exit)) ⌝ }
+    ensures { λ r. ⌜ Ends (namedCode (cornerAnswer (now (table .entry)) cell k)) (namedValue (cornerAnswer (now (table .entry)) cell k) (now (corner .entry))) r (now (corner .exit)) ⌝ }
 {
     name_cell(corner::corner(table, cell, k), corner)
 }
 
 #[no_mangle]
 pub extern "C" fn bt_sheet(table: &[u16], yes: &mut u8) -> u32
-    ensures { λ r. ⌜ Answers (judgedCode (sheetAnswer (now (table .entry)))) (judgedValue (sheetAnswer (now (table .entry))) (now (yes .entry))) r (now (yes .exit)) ⌝ }
+    ensures { λ r. ⌜ Ends (judgedCode (sheetAnswer (now (table .entry)))) (judgedValue (sheetAnswer (now (table .entry))) (now (yes .entry))) r (now (yes .exit)) ⌝ }
 {
     let answer = sheet::sheet(table);
     match answer {
@@ -190,7 +158,7 @@ pub extern "C" fn bt_check(
             *holes = found;
             0
         }
-        Verdict::Refused(r) => name_row(r, row),
+        Verdict::Refused(r) => table::name_row(r, row),
     }
 }
 

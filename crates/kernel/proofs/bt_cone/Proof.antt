@@ -16,7 +16,7 @@ same-length c = search needs
 
 returns : tie.Need-returns
 returns c = filled namedCode namedValue _ _ _ _ _ _ _ (c .before .before .before .before .cone .ensures) (c .name-cell .ensures .answer)
-    (c .name-cell .ensures .told)
+    (c .name-cell .ensures .left)
 
 pub bt-cone-spec : {M : Type 1} → statement M
 bt-cone-spec = tie.close (tie.spec cone-requires name-cell-requires same-length returns)

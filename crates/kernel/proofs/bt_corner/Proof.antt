@@ -14,7 +14,7 @@ name-cell-requires c κs = search needs
 
 returns : tie.Need-returns
 returns c = told namedCode namedValue _ _ _ _ _ (sym (c .before .before .corner .ensures)) (c .name-cell .ensures .answer)
-    (c .name-cell .ensures .told)
+    (c .name-cell .ensures .left)
 
 pub bt-corner-spec : {M : Type 1} → statement M
 bt-corner-spec = tie.close (tie.spec corner-requires name-cell-requires returns)

@@ -16,7 +16,7 @@ same-length c = search needs
 
 returns : tie.Need-returns
 returns c = filled namedCode namedValue _ _ _ _ _ _ _ (c .before .before .before .before .merge .ensures) (c .name-cell .ensures .answer)
-    (c .name-cell .ensures .told)
+    (c .name-cell .ensures .left)
 
 pub bt-merge-spec : {M : Type 1} → statement M
 bt-merge-spec = tie.close (tie.spec merge-requires name-cell-requires same-length returns)
