@@ -1,6 +1,7 @@
 // Other libraries that count the same hole numbers, on the same tables and in the same run: PARI (rank of matrices mod 2), PHAT
 // (reduction of a boundary matrix mod 2) and GUDHI (cohomology of a simplicial complex). Each is used only where it is installed.
-// Every one starts from the table and ends with seven hole numbers; the library's time is its reducer and its checker together.
+// Every one starts from the table and ends with seven hole numbers; the library's time is its reducer and its checker together. The
+// reducer's time is given alone as well: it ends with evidence, which is what the other libraries' reductions end with inside.
 #include "bumbleturf.h"
 #include "tables.h"
 
@@ -33,13 +34,24 @@ struct Holes {
     uint16_t of[7];
 };
 
+uint64_t evidence[ROOM * ROW];
+
+size_t evidence_words(const piece &t)
+{
+    return t.n * ((t.n + 63) / 64);
+}
+
+// Evidence alone: no hole numbers are answered.
+bool by_reducer(const piece &t, Holes &)
+{
+    uint64_t additions[7];
+    return bt_reduce(t.words, 8 * t.n, evidence, evidence_words(t), additions) == 0;
+}
+
 bool by_library(const piece &t, Holes &out)
 {
-    static uint64_t evidence[ROOM * ROW], additions[7];
     uint16_t cells[7], row;
-    size_t words = 8 * t.n, length = t.n * ((t.n + 63) / 64);
-    return bt_reduce(t.words, words, evidence, length, additions) == 0
-        && bt_check(t.words, words, evidence, length, cells, out.of, &row) == 0;
+    return by_reducer(t, out) && bt_check(t.words, 8 * t.n, evidence, evidence_words(t), cells, out.of, &row) == 0;
 }
 
 // Live cells of each dimension; where place is given, each cell's place among those of its dimension.
@@ -163,16 +175,18 @@ int main()
     struct {
         const char *name;
         Way way;
+        bool counts;
     } ways[] = {
-        {"library", by_library},
+        {"library", by_library, true},
+        {"reducer alone", by_reducer, false},
 #ifdef HAS_PARI
-        {"PARI", by_pari},
+        {"PARI", by_pari, true},
 #endif
 #ifdef HAS_PHAT
-        {"PHAT", by_phat},
+        {"PHAT", by_phat, true},
 #endif
 #ifdef HAS_GUDHI
-        {"GUDHI", by_gudhi},
+        {"GUDHI", by_gudhi, true},
 #endif
     };
     constexpr int rounds = 41;
@@ -190,7 +204,7 @@ int main()
             for (size_t k = 0; k < taken.size(); k++) {
                 if (!ways[k].way(t, theirs))
                     continue;
-                wrong += std::memcmp(&ours, &theirs, sizeof ours) != 0;
+                wrong += ways[k].counts && std::memcmp(&ours, &theirs, sizeof ours) != 0;
                 taken[k].push_back(once(ways[k].way, t, t.n == 8 ? 20 : 2));
             }
         for (size_t k = taken.size(); k-- > 0;) {
