@@ -55,7 +55,7 @@ bool by_library(const piece &t, Holes &out)
 }
 
 // Live cells of each dimension; where place is given, each cell's place among those of its dimension.
-void count(const piece &t, uint16_t cells[8], uint16_t *place)
+[[maybe_unused]] void count(const piece &t, uint16_t cells[8], uint16_t *place)
 {
     std::memset(cells, 0, 8 * sizeof *cells);
     for (size_t c = 0; c < t.n; c++)
