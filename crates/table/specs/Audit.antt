@@ -1,6 +1,6 @@
 -- What the audit computes: the first breach by cell, within a cell the record, then its face places, then the pairs of the law by
 -- smallest j, then l. That this says 'sound' exactly for the valid tables of Table.antt is proved in the crate `audit`.
--- A reader need not believe this file where it stands beside `Valid`; it fixes the order of the search.
+-- A reader must believe the two grounds at the end; the search above them fixes an order, and is tied to `Valid` by that proof.
 use mathlib.Core.Bool.{Bool, true, false, _&&_, _||_, not}
 use mathlib.Core.List.{List, [], _∷_}
 use Prim.Native.Nat.{ℕ, zero, suc, _+_, _-_, _≤_, _<_}
