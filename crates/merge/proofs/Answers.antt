@@ -2,8 +2,8 @@
 -- identification; a refused one leaves the table.
 -- What carries it: every ground, and the map, is the same for both orders. Assumes nothing.
 use mathlib.Core.Path.{_≡_, refl, ap, ap₂, sym, subst, _∙_, fun-ext}
-use mathlib.Core.Bool.{Bool, true, false, _&&_, not}
-use mathlib.Core.List.{List, [], _∷_}
+use mathlib.Core.Bool.{and-comm}
+use mathlib.Core.List.{List}
 use mathlib.Core.Logic.{⊎-elim}
 use Prim.Native.Nat.{ℕ, min}
 use native.Mathlib.Nat.{min-comm}
@@ -11,26 +11,20 @@ use borrow.Author.Tests.{eq-eqb, ne-eqb}
 use lib.Dec.{eqb}
 use Rattle.table.specs.Kind.{faces}
 use Rattle.table.specs.Table.{dim, face, live, Valid}
-use Rattle.table.specs.Audit.{all, onLength, onValidity}
-use Rattle.table.specs.Calls.{verdict, named, leaves, Ends}
+use Rattle.table.specs.Audit.{all}
+use Rattle.table.specs.Calls.{named, leaves, Ends}
 use Rattle.table.specs.declared.Refusal.{Refusal}
-use Rattle.table.specs.declared.Refusal.the-variants.{NotLive, SameCell, DimensionsDiffer, FacesDiffer}
 use Rattle.table.specs.declared.Verdict.{Verdict}
 use Rattle.table.specs.declared.Verdict.the-variants.{Accepted, Refused}
 use Rattle.table.specs.declared.Named.{Named}
 use Rattle.table.specs.declared.Named.the-variants.{Cell, NoCell}
+use Rattle.table.proofs.Cases.{same-or-not}
 use Rattle.audit.proofs.Outcomes.{one-outcome}
 use Rattle.merge.specs.Merge.{IsIdentification, sameFaces, mergeVerdict, merged, mergeAnswer, mergeLeaves}
-use Rattle.merge.proofs.Renaming.{same-or-not, renamed-both-ways}
+use Rattle.merge.proofs.Renaming.{renamed-both-ways}
 use Rattle.merge.proofs.Verdicts.{merge-accepted}
 use Rattle.merge.proofs.Identification.{merged-is-identification}
 use Rattle.merge.proofs.Keeping.{merged-keeps-valid}
-
-and-both-ways : (x y : Bool) → (x && y) ≡ (y && x)
-and-both-ways true true = refl
-and-both-ways true false = refl
-and-both-ways false true = refl
-and-both-ways false false = refl
 
 eqb-both-ways : (m n : ℕ) → eqb m n ≡ eqb n m
 eqb-both-ways m n =
@@ -43,24 +37,10 @@ same-faces-both-ways : (t : List ℕ) (a b : ℕ) → sameFaces t a b ≡ sameFa
 unfolding sameFaces
 same-faces-both-ways t a b = ap (all faces) (fun-ext (λ j. eqb-both-ways (face t a j) (face t b j)))
 
--- the verdict as a function of what is tested of the two cells
-tested : List ℕ → Bool → Bool → Bool → Bool → Verdict
-tested t l e d f =
-    verdict
-    (onLength t
-    ∷ onValidity t
-    ∷ record { refusal = NotLive; applies = not l }
-    ∷ record { refusal = SameCell; applies = e }
-    ∷ record { refusal = DimensionsDiffer; applies = not d }
-    ∷ record { refusal = FacesDiffer; applies = not f }
-    ∷ [])
-
 pub verdict-both-ways : (t : List ℕ) (a b : ℕ) → mergeVerdict t a b ≡ mergeVerdict t b a
-unfolding mergeVerdict tested
+unfolding mergeVerdict
 verdict-both-ways t a b =
-    ap (λ l. tested t l (eqb a b) (eqb (dim t a) (dim t b)) (sameFaces t a b)) (and-both-ways (live t a) (live t b))
-    ∙ ap (λ e. tested t (live t b && live t a) e (eqb (dim t a) (dim t b)) (sameFaces t a b)) (eqb-both-ways a b)
-    ∙ ap₂ (tested t (live t b && live t a) (eqb b a)) (eqb-both-ways (dim t a) (dim t b)) (same-faces-both-ways t a b)
+    rw (and-comm (live t a) (live t b), eqb-both-ways a b, eqb-both-ways (dim t a) (dim t b), same-faces-both-ways t a b)
 
 pub merged-both-ways : (t : List ℕ) (a b : ℕ) → merged t a b ≡ merged t b a
 unfolding merged

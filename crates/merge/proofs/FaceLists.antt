@@ -15,11 +15,12 @@ use Rattle.table.specs.Table.{dim, face, facesOf, Live, Valid}
 use Rattle.table.specs.declared.Refusal.{Refusal}
 use Rattle.table.specs.declared.Refusal.the-variants.{FacesDiffer}
 use Rattle.table.specs.declared.Verdict.the-variants.{Accepted, Refused}
+use Rattle.table.proofs.Cases.{below-or-not}
 use Rattle.table.proofs.Records.{faces-at, live-says}
 use Rattle.audit.proofs.Valid.{valid-is-sound, valid-is-sized}
 use Rattle.merge.specs.Merge.{faceList, sameFaces, mergeVerdict}
-use Rattle.merge.proofs.Stores.{below-or-not}
-use Rattle.merge.proofs.Verdicts.{Mergeable, merge-accepted, refused-not-accepted, same-faces-true, same-faces-says}
+use Rattle.merge.proofs.Pairs.{same-faces-true, same-faces-says}
+use Rattle.merge.proofs.Verdicts.{Mergeable, merge-accepted}
 
 -- a used place of the list is the face there
 listed-face : (t : List ℕ) (c j : ℕ) → j < faces → j < used (dim t c) → getD (faceList t c) j 0 ≡ face t c j
@@ -62,7 +63,7 @@ module _ (t : List ℕ) (a b : ℕ) (v : Valid t) (x : Live t a) (y : Live t b) 
 
   pub merge-refused-iff-faces-differ : ((r : Refusal) × (mergeVerdict t a b ≡ Refused r)) ↔ (faceList t a ≡ faceList t b → ⊥)
   merge-refused-iff-faces-differ = (
-    λ r e. refused-not-accepted (r .0) (sym (r .1) ∙ equal-lists-accepted e),
+    λ r e. let z : _≡_ {A = ℕ} 0 1 = cc (r .1, equal-lists-accepted e) in omega arith,
     λ m. (FacesDiffer, different-lists-refused m),
   )
 

@@ -7,10 +7,11 @@ use Prim.Native.Nat.{ℕ, _<_, max}
 use native.Mathlib.Omega.{arith}
 use Rattle.table.specs.Kind.{faces}
 use Rattle.table.specs.Table.{cellsOf, dim, face, Sized, Live, Valid}
+use Rattle.table.proofs.Cases.{same-or-not, same-or-other}
 use Rattle.table.proofs.Words.{table-by-records}
 use Rattle.merge.specs.Rename.{identify}
 use Rattle.merge.specs.Merge.{IsIdentification, merged}
-use Rattle.merge.proofs.Renaming.{same-or-not, at-or-beside, length-renamed, dim-fixed, face-fixed, dim-moved, face-moved, identify-larger, identify-other}
+use Rattle.merge.proofs.Renaming.{length-renamed, dim-fixed, face-fixed, dim-moved, face-moved, identify-larger, identify-other}
 
 -- the larger of two live cells is inside the table, and the map moves it
 larger-inside : (t : List ℕ) (a b : ℕ) → Live t a → Live t b → max a b < cellsOf t
@@ -44,7 +45,7 @@ merged-is-identification t a b valid v w n =
 module _ (t : List ℕ) (a b : ℕ) (t′ t″ : List ℕ) (s : Sized t) (i : IsIdentification t a b t′) (k : IsIdentification t a b t″) where
   same-dims : (c : ℕ) → c < cellsOf t → dim t′ c ≡ dim t″ c
   same-dims c h =
-      at-or-beside (λ d. dim t′ d ≡ dim t″ d) c (max a b)
+      same-or-other (λ d. dim t′ d ≡ dim t″ d) c (max a b)
       (i .freed-dim ∙ sym (k .freed-dim))
       (λ n. i .kept-dim c h n ∙ sym (k .kept-dim c h n))
 
@@ -59,6 +60,6 @@ module _ (t : List ℕ) (a b : ℕ) (t′ t″ : List ℕ) (s : Sized t) (i : Is
   identification-determines =
       table-by-records t′ t″ (cellsOf t) (i .size ∙ s .whole) (k .size ∙ s .whole) same-dims
       (λ c j h l.
-      at-or-beside (λ d. face t′ d j ≡ face t″ d j) c (max a b)
+      same-or-other (λ d. face t′ d j ≡ face t″ d j) c (max a b)
       (i .freed-face j l ∙ sym (k .freed-face j l))
       (same-face c j h l))

@@ -7,12 +7,12 @@ use Prim.Native.Nat.{ℕ, suc, _+_, _-_, _≤_, _<_, min, max}
 use native.Mathlib.Omega.{arith}
 use Rattle.table.specs.Kind.{top, faces, freeMark, used}
 use Rattle.table.specs.Table.{cellsOf, dim, face, Live, Valid}
+use Rattle.table.proofs.Cases.{below-or-not, same-or-not}
 use Rattle.table.proofs.Words.{table-by-records}
 use Rattle.audit.proofs.Places.{used-is, used-says, used-fits}
 use Rattle.merge.specs.Rename.{renamed, identify}
 use Rattle.merge.specs.Merge.{merged}
-use Rattle.merge.proofs.Stores.{below-or-not}
-use Rattle.merge.proofs.Renaming.{same-or-not, length-renamed, cellsOf-renamed, sized-renamed, dim-fixed, face-fixed, dim-moved, face-moved, live-after, live-before, fixed-where-live, identify-larger, identify-other, identify-keeps, identify-once}
+use Rattle.merge.proofs.Renaming.{length-renamed, cellsOf-renamed, sized-renamed, dim-fixed, face-fixed, dim-moved, face-moved, live-after, live-before, fixed-where-live, identify-larger, identify-other, identify-keeps, identify-once}
 
 -- A map carries a table when twice is once, the free mark stays, and each live cell goes to a live cell of its dimension whose
 -- faces go where its own go.

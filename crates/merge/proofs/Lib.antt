@@ -1,5 +1,4 @@
 pub mod Renaming
-pub mod Stores
 pub mod Passes
 pub mod Pairs
 pub mod Identification

@@ -1,53 +1,48 @@
--- What the two cells say to their merge, way by way out of the code: liveness, the comparison of faces, and the four grounds.
--- What carries them: each test is read as the fact that it tests. Assumes nothing.
-use mathlib.Core.Path.{_≡_, refl, sym}
+-- What the two cells say to their merge, way by way out of the code: the comparison of faces, and the four grounds; and that the
+-- audit comes before them.
+-- What carries it: each test is read as the fact that it tests; grounds that come first decide. Assumes nothing.
+use mathlib.Core.Path.{_≡_, sym, _∙_}
 use mathlib.Core.Bool.{true, false}
 use mathlib.Core.List.{List}
-use Prim.Native.Nat.{ℕ, _≤_, _<_}
-use borrow.Author.Tests.{eq-eqb, ne-eqb, lt-ltb, le-ltb, eqb-true}
+use Prim.Native.Nat.{ℕ, _<_}
+use borrow.Author.Tests.{eq-eqb, ne-eqb, eqb-true}
 use lib.ListN.{getD}
-use lib.Dec.{leb, eqb}
-use Rattle.table.specs.Kind.{top, faces}
-use Rattle.table.specs.Table.{cellsOf, dim, facesOf, live}
-use Rattle.table.specs.Audit.{all}
+use lib.Dec.{eqb}
+use Rattle.table.specs.Kind.{faces}
+use Rattle.table.specs.Table.{dim, face, facesOf, live}
+use Rattle.table.specs.Audit.{auditGrounds}
 use Rattle.table.specs.Calls.{verdict}
+use Rattle.table.specs.declared.Refusal.{Refusal}
 use Rattle.table.specs.declared.Refusal.the-variants.{NotLive, SameCell, DimensionsDiffer, FacesDiffer}
 use Rattle.table.specs.declared.Verdict.the-variants.{Accepted, Refused}
+use Rattle.table.proofs.Records.{faces-at}
+use Rattle.audit.proofs.Grounds.{accepted-first, refused-first}
 use Rattle.audit.proofs.Records.{not-true-false}
 use Rattle.audit.proofs.Scans.{all-true, all-says}
-use Rattle.table.proofs.Records.{live-true}
-use Rattle.merge.specs.Merge.{sameFaces}
-use Rattle.merge.specs.Writing.{pairGrounds, sameWords}
-
-pub live-here : (t : List ℕ) (c p : ℕ) → c < cellsOf t → p ≡ dim t c → leb p top ≡ live t c
-unfolding live
-live-here t c p h e = simp (lt-ltb c (cellsOf t) h, e)
-
-pub live-not : (t : List ℕ) (c : ℕ) → cellsOf t ≤ c → false ≡ live t c
-unfolding live
-live-not t c h = simp (le-ltb c (cellsOf t) h)
-
--- a number that is live lies inside
-pub live-inside : (t : List ℕ) (c : ℕ) → live t c ≡ true → c < cellsOf t
-live-inside t c e = live-true t c e .inside
-
--- seven words against seven words
-pub words-same : (x y : List ℕ) → ((j : ℕ) → j < faces → getD x j 0 ≡ getD y j 0) → true ≡ sameWords x y
-unfolding sameWords
-words-same x y each =
-    sym (all-says (λ j. eqb (getD x j 0) (getD y j 0)) faces (λ j h. eq-eqb (getD x j 0) (getD y j 0) (each j h)))
-
-pub words-differ : (x y : List ℕ) (j : ℕ) → j < faces → (getD x j 0 ≡ getD y j 0 → ⊥) → false ≡ sameWords x y
-unfolding sameWords
-words-differ x y j h n =
-    sym (not-true-false (sameWords x y) (λ e. n (eqb-true (getD x j 0) (getD y j 0) (all-true (λ j. eqb (getD x j 0) (getD y j 0)) faces e j h))))
-
--- the faces by value are compared as the faces in the table are
-pub same-by-value : (t : List ℕ) (a b : ℕ) → sameWords (facesOf t a) (facesOf t b) ≡ sameFaces t a b
-unfolding sameWords sameFaces all
-same-by-value t a b = refl
+use Rattle.merge.specs.Merge.{sameFaces, mergeVerdict}
+use Rattle.merge.specs.Writing.{pairGrounds}
 
 module _ (t : List ℕ) (a b : ℕ) where
+  -- all seven words agree exactly where the test says so
+  pub same-faces-true : sameFaces t a b ≡ true → (j : ℕ) → j < faces → face t a j ≡ face t b j
+  unfolding sameFaces
+  same-faces-true e j h =
+      eqb-true (face t a j) (face t b j) (all-true (λ j. eqb (face t a j) (face t b j)) faces e j h)
+
+  pub same-faces-says : ((j : ℕ) → j < faces → face t a j ≡ face t b j) → sameFaces t a b ≡ true
+  unfolding sameFaces
+  same-faces-says each =
+      all-says (λ j. eqb (face t a j) (face t b j)) faces (λ j h. eq-eqb (face t a j) (face t b j) (each j h))
+
+  -- the same of the faces by value
+  module _ (x y : List ℕ) (e : x ≡ facesOf t a) (f : y ≡ facesOf t b) where
+    pub words-same : ((j : ℕ) → j < faces → getD x j 0 ≡ getD y j 0) → true ≡ sameFaces t a b
+    words-same each = sym (same-faces-says (λ j h. sym (faces-at t a x e j h) ∙ each j h ∙ faces-at t b y f j h))
+
+    pub words-differ : (j : ℕ) → j < faces → (getD x j 0 ≡ getD y j 0 → ⊥) → false ≡ sameFaces t a b
+    words-differ j h n =
+        sym (not-true-false (sameFaces t a b) (λ q. n (faces-at t a x e j h ∙ same-faces-true q j h ∙ sym (faces-at t b y f j h))))
+
   pub first-not-live : live t a ≡ false → Refused NotLive ≡ verdict (pairGrounds t a b)
   first-not-live e = simp e
 
@@ -67,3 +62,12 @@ module _ (t : List ℕ) (a b : ℕ) where
 
     pub nothing-against : (a ≡ b → ⊥) → dim t a ≡ dim t b → sameFaces t a b ≡ true → Accepted ≡ verdict (pairGrounds t a b)
     nothing-against s d g = simp (e, f, ne-eqb a b s, eq-eqb (dim t a) (dim t b) d, g)
+
+  -- where the audit refuses its refusal stands, else the pair decides
+  pub invalid-refuses : (r : Refusal) → verdict (auditGrounds t) ≡ Refused r → mergeVerdict t a b ≡ Refused r
+  unfolding mergeVerdict
+  invalid-refuses = refused-first (auditGrounds t) (pairGrounds t a b)
+
+  pub valid-then-pair : verdict (auditGrounds t) ≡ Accepted → mergeVerdict t a b ≡ verdict (pairGrounds t a b)
+  unfolding mergeVerdict
+  valid-then-pair = accepted-first (auditGrounds t) (pairGrounds t a b)

@@ -1,31 +1,19 @@
 -- Laws of a table renamed by a map, over any map: its size, its dimensions, its faces and its live cells; and the map of an
 -- identification. What carries them: a table is written down record by record. Assumes nothing.
-use mathlib.Core.Path.{_≡_, refl, ap, ap₂, sym, _∙_, fun-ext, subst}
-use mathlib.Core.Bool.{Bool, true, false}
+use mathlib.Core.Path.{_≡_, refl, ap, ap₂, sym, _∙_, fun-ext}
 use mathlib.Core.List.{List}
-use mathlib.Core.Logic.{_⊎_, inl, inr, ⊎-elim}
+use mathlib.Core.Logic.{⊎-elim}
 use Prim.Native.Nat.{ℕ, _*_, _≤_, _<_, min, max}
 use native.Mathlib.Nat.{min-comm, max-comm}
 use native.Mathlib.Omega.{arith}
-use borrow.Author.Tests.{eq-eqb, ne-eqb, eqb-true, eqb-false}
+use borrow.Author.Tests.{eq-eqb, ne-eqb}
 use lib.ListN.{length}
 use lib.Dec.{eqb}
 use Rattle.table.specs.Kind.{faces, width, freeMark, pick}
 use Rattle.table.specs.Table.{cellsOf, dim, face, Sized, Live}
+use Rattle.table.proofs.Cases.{same-or-not}
 use Rattle.table.proofs.Words.{length-tableOf, cellsOf-tableOf, dim-tableOf, face-tableOf, table-by-records}
 use Rattle.merge.specs.Rename.{renamed, identify}
-
--- two numbers are equal or not
-pub same-or-not : (a b : ℕ) → (a ≡ b) ⊎ (a ≡ b → ⊥)
-same-or-not a b = go (eqb a b) refl
-  where
-    go : (x : Bool) → eqb a b ≡ x → (a ≡ b) ⊎ (a ≡ b → ⊥)
-    go true e = inl (eqb-true a b e)
-    go false e = inr (eqb-false a b e)
-
--- a statement about d: at c, or beside it
-pub at-or-beside : (P : ℕ → Type 0) (d c : ℕ) → P c → ((d ≡ c → ⊥) → P d) → P d
-at-or-beside P d c here beside = ⊎-elim (λ e. subst P (sym e) here) beside (same-or-not d c)
 
 module _ (ρ : ℕ → ℕ) (t : List ℕ) where
   abbrev kept-dim : ℕ → ℕ

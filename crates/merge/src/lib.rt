@@ -1,21 +1,23 @@
 // Merge, the identification of two cells: every face compared, in order; then one pass over the face words.
 ghost use mathlib.Core.Path.{_≡_};
-ghost use Prim.Native.Nat.{_*_, _<_};
-ghost use lib.ListN.{length};
-ghost use Rattle.table.specs.Kind.{width};
-ghost use Rattle.table.specs.Table.{cellsOf, dim as dimOf, facesOf, live as liveIn};
+ghost use Prim.Native.Nat.{_<_};
+ghost use Rattle.table.specs.Table.{cellsOf, dim as dimOf, face as faceOf, Sized};
+ghost use Rattle.table.specs.Stores.{Stored};
 ghost use Rattle.table.specs.Calls.{verdict, Ends};
-ghost use Rattle.merge.specs.Merge.{mergeVerdict, mergeAnswer, mergeLeaves, merged};
-ghost use Rattle.merge.specs.Writing.{pairGrounds, sameWords, sent as sentTo, sentFaces, written};
+ghost use Rattle.merge.specs.Merge.{sameFaces, mergeVerdict, mergeAnswer, mergeLeaves, merged};
+ghost use Rattle.merge.specs.Writing.{pairGrounds, sent as sentTo};
 use table::Named;
 use table::Refusal;
 use table::Table;
 use table::Verdict;
 
 // Whether two records have the same face words, place by place.
-fn same_faces(x: [u16; Table::FACES], y: [u16; Table::FACES]) -> bool
-    ensures { λ r. ⌜ r ≡ sameWords x y ⌝ }
+fn same_faces(t: &[u16], a: usize, b: usize) -> bool
+    requires { ⌜ (a < cellsOf (now t)) × (b < cellsOf (now t)) ⌝ }
+    ensures { λ r. ⌜ r ≡ sameFaces (now (t .entry)) a b ⌝ }
 {
+    let x = Table::faces(t, a);
+    let y = Table::faces(t, b);
     let mut j = 0;
     while j < Table::FACES {
         if x[j] != y[j] {
@@ -24,16 +26,6 @@ fn same_faces(x: [u16; Table::FACES], y: [u16; Table::FACES]) -> bool
         j += 1;
     }
     true
-}
-
-// Whether c is a live cell.
-fn live(t: &[u16], c: u16) -> bool
-    ensures { λ r. ⌜ r ≡ liveIn (now (t .entry)) c ⌝ }
-{
-    if (c as usize) < t.len() / Table::WORDS {
-        return Table::dim(t, c as usize) <= Table::TOP;
-    }
-    false
 }
 
 // A face word, with the kept number for the freed one.
@@ -46,67 +38,44 @@ fn sent(f: u16, kept: u16, gone: u16) -> u16
     f
 }
 
-// A record's faces, with the kept number for the freed one.
-fn sent_faces(x: [u16; Table::FACES], kept: u16, gone: u16) -> [u16; Table::FACES]
-    ensures { λ r. ⌜ r ≡ sentFaces kept gone x ⌝ }
-{
-    [
-        sent(x[0], kept, gone),
-        sent(x[1], kept, gone),
-        sent(x[2], kept, gone),
-        sent(x[3], kept, gone),
-        sent(x[4], kept, gone),
-        sent(x[5], kept, gone),
-        sent(x[6], kept, gone),
-    ]
-}
-
-// Writes record c: dimension p, faces x.
-fn store(t: &mut [u16], c: usize, p: u16, x: [u16; Table::FACES])
-    requires { ⌜ (c < cellsOf (now t)) × (length (now t) ≡ cellsOf (now t) * width) ⌝ }
-    ensures { λ _. ⌜ now (t .exit) ≡ written (now (t .entry)) c p x ⌝ }
-{
-    let at = c * Table::WORDS;
-    let mut l = 0;
-    while l < Table::FACES {
-        t[at + (1 + l)] = x[l];
-        l += 1;
-    }
-    t[at] = p;
-}
-
 // Renames the faces of record c: its dimension stays, even where it is the freed number.
 fn rename(t: &mut [u16], c: usize, kept: u16, gone: u16)
-    requires { ⌜ (c < cellsOf (now t)) × (length (now t) ≡ cellsOf (now t) * width) ⌝ }
-    ensures { λ _. ⌜ now (t .exit) ≡ written (now (t .entry)) c (dimOf (now (t .entry)) c) (sentFaces kept gone (facesOf (now (t .entry)) c)) ⌝ }
+    requires { ⌜ c < cellsOf (now t) ⌝ }
+    ensures { λ _. ⌜ Stored c (dimOf (now (t .entry)) c) (λ j. sentTo kept gone (faceOf (now (t .entry)) c j)) (now (t .entry)) (now (t .exit)) ⌝ }
 {
     let p = Table::dim(t, c);
-    let x = sent_faces(Table::faces(t, c), kept, gone);
-    store(t, c, p, x);
+    let x = Table::faces(t, c);
+    let mut y = x;
+    let mut l = 0;
+    while l < Table::FACES {
+        y[l] = sent(x[l], kept, gone);
+        l += 1;
+    }
+    Table::put(t, c, p, y);
 }
 
 // Every face word, in every record, that names the freed number names the kept one; then the freed record's words are free.
 fn join(t: &mut [u16], kept: u16, gone: u16)
-    requires { ⌜ (kept < gone) × (gone < cellsOf (now t)) × (length (now t) ≡ cellsOf (now t) * width) ⌝ }
+    requires { ⌜ (kept < gone) × (gone < cellsOf (now t)) × Sized (now t) ⌝ }
     ensures { λ _. ⌜ now (t .exit) ≡ merged (now (t .entry)) kept gone ⌝ }
 {
-    let n = t.len() / Table::WORDS;
+    let n = Table::room(t);
     let mut c = 0;
     while c < n {
         rename(t, c, kept, gone);
         c += 1;
     }
-    store(t, gone as usize, Table::FREE, [Table::FREE; Table::FACES]);
+    Table::put(t, gone as usize, Table::FREE, [Table::FREE; Table::FACES]);
 }
 
 // What the two cells say to their merge, in a table that is valid: refused with 3 to 6, in that order.
 fn pair_verdict(t: &[u16], a: u16, b: u16) -> Verdict
     ensures { λ r. ⌜ r ≡ verdict (pairGrounds (now (t .entry)) a b) ⌝ }
 {
-    if !live(t, a) {
+    if !Table::live(t, a as usize) {
         return Verdict::Refused(Refusal::NotLive);
     }
-    if !live(t, b) {
+    if !Table::live(t, b as usize) {
         return Verdict::Refused(Refusal::NotLive);
     }
     if a == b {
@@ -115,7 +84,7 @@ fn pair_verdict(t: &[u16], a: u16, b: u16) -> Verdict
     if Table::dim(t, a as usize) != Table::dim(t, b as usize) {
         return Verdict::Refused(Refusal::DimensionsDiffer);
     }
-    if !same_faces(Table::faces(t, a as usize), Table::faces(t, b as usize)) {
+    if !same_faces(t, a as usize, b as usize) {
         return Verdict::Refused(Refusal::FacesDiffer);
     }
     Verdict::Accepted

@@ -6,20 +6,22 @@ use borrow.Author.Needs.{needs}
 use native.Mathlib.Omega.{arith}
 use lib.ListN.{length, getD-replicate}
 use Rattle.table.specs.Kind.{faces, freeMark}
-use Rattle.merge.specs.Writing.{sent}
-use Rattle.merge.proofs.Passes.{partly, join-start, join-more, join-end}
+use Rattle.merge.proofs.Passes.{partly, partly-start, partly-more, partly-end}
 use Rattle.merge.proofs.join.Statement.{statement}
 use Rattle.merge.proofs.join.Tie as tie
 
 abbrev Inv-loop : tie.InvT-loop
 Inv-loop t₀ kept gone n c₀ t c =
-    (c ≤ n) × (length t ≡ length t₀) × (t ≡ partly (sent kept gone) t₀ c)
+    (c ≤ n) × (length t ≡ length t₀) × (t ≡ partly kept gone t₀ c)
 
 abbrev μ-loop : tie.MeasureT-loop
 μ-loop t₀ kept gone n c₀ t c = n - c
 
+room-requires : tie.Need-room-requires Inv-loop μ-loop
+room-requires c κs = search needs
+
 loop-holds : tie.Need-loop-holds Inv-loop μ-loop
-loop-holds c = (search needs, search needs, join-start _ _ (c .before .pre .0) _ (c .before .pre .2))
+loop-holds c = (search needs, search needs, partly-start _ _ _ (c .before .before .before .pre .2))
 
 rename-requires : tie.Need-rename-requires Inv-loop μ-loop
 rename-requires c κs = omega arith
@@ -33,27 +35,23 @@ loop-less c = search needs
 loop-again : tie.Need-loop-again Inv-loop μ-loop
 loop-again c =
     let r = c .before .before .rename in
-    let i = c .before .before .before .before in
-    let p = i .before .before .before .pre in
-    let l = i .before .loop in (
+    let p = c .before .before .before .before .before in
+    let l = p .loop in (
       search needs,
-      r .kept .0 ∙ l .inv .1,
-      r .ensures ∙ join-more _ _ (p .0) _ (p .2) (l .c) (i .loop-test .taken) (l .t) (l .inv .2),
+      r .ensures .size ∙ l .inv .1,
+      partly-more _ _ (p .before .before .before .before .args .t .now) (l .c) (l .t) _ (search needs) (l .inv .2) (r .ensures),
     )
 
-store-requires : tie.Need-store-requires Inv-loop μ-loop
-store-requires c κs = omega arith
+put-requires : tie.Need-put-requires Inv-loop μ-loop
+put-requires c κs = omega arith
 
 same-length : tie.Need-same-length Inv-loop μ-loop
 same-length c = search needs
 
 returns : tie.Need-returns Inv-loop μ-loop
 returns c =
-    let i = c .before .before .before .before in
-    let p = i .before .before .before .pre in
-    let l = i .before .loop in
-    c .before .before .store .ensures
-    ∙ join-end _ _ (p .0) _ (p .2) (p .1) (l .t) (l .c) (l .inv .0) (i .loop-test .left) (l .inv .2) _
+    let l = c .before .before .before .before .before .loop in
+    partly-end _ _ _ (l .c) (l .t) _ _ (search needs) (search needs) (l .inv .2) (c .before .before .put .ensures)
     (λ j h. getD-replicate faces j freeMark 0 h)
 
 pub join-spec : {M : Type 1} → statement M
@@ -62,11 +60,12 @@ join-spec =
     (tie.spec
     Inv-loop
     μ-loop
+    room-requires
     loop-holds
     rename-requires
     add-c
     loop-less
     loop-again
-    store-requires
+    put-requires
     same-length
     returns)

@@ -32,7 +32,7 @@ mergeable c = merge-accepted _ _ _ (accepted c)
 join-requires : tie.Need-join-requires
 join-requires c κs =
     let m = mergeable (c .before .before) in
-    (c .before .if1 .taken, m .second .inside, m .valid .sized .whole)
+    (c .before .if1 .taken, m .second .inside, m .valid .sized)
 
 same-length : tie.Need-same-length
 same-length c = search needs
@@ -45,7 +45,7 @@ returns c =
 join-requires-2 : tie.Need-join-requires-2
 join-requires-2 c κs =
     let m = mergeable (c .before .before) in
-    (omega (arith, c .before .if1 .left, m .different), m .first .inside, m .valid .sized .whole)
+    (omega (arith, c .before .if1 .left, m .different), m .first .inside, m .valid .sized)
 
 same-length-2 : tie.Need-same-length-2
 same-length-2 c = search needs

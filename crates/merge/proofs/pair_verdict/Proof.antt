@@ -1,13 +1,12 @@
 -- `merge::pair_verdict` meets its contract: at each way out the tests that led there decide the grounds, in their order.
 -- Assumes nothing.
-use mathlib.Core.Path.{_≡_, sym, ap₂, _∙_}
+use mathlib.Core.Path.{_≡_, sym, _∙_}
 use mathlib.Core.Bool.{true}
 use borrow.Author.Needs.{needs}
 use borrow.Author.Tests.{not-true, not-false}
 use Rattle.table.specs.Table.{dim, live}
-use Rattle.merge.specs.Merge.{sameFaces}
-use Rattle.merge.specs.Writing.{sameWords}
-use Rattle.merge.proofs.Pairs.{live-inside, same-by-value, first-not-live, second-not-live, one-cell-twice, dimensions-differ, faces-differ, nothing-against}
+use Rattle.table.proofs.Records.{live-true}
+use Rattle.merge.proofs.Pairs.{first-not-live, second-not-live, one-cell-twice, dimensions-differ, faces-differ, nothing-against}
 use Rattle.merge.proofs.pair_verdict.Statement.{statement}
 use Rattle.merge.proofs.pair_verdict.Tie as tie
 
@@ -39,10 +38,10 @@ returns-3 : tie.Need-returns-3
 returns-3 c = one-cell-twice _ _ _ (live-first (c .before .before .before)) (live-second (c .before)) (c .if3 .taken)
 
 dim-requires : tie.Need-dim-requires
-dim-requires c κs = live-inside _ _ (live-first (c .before .before .before))
+dim-requires c κs = live-true _ _ (live-first (c .before .before .before)) .inside
 
 dim-requires-2 : tie.Need-dim-requires-2
-dim-requires-2 c κs = live-inside _ _ (live-second (c .before .before))
+dim-requires-2 c κs = live-true _ _ (live-second (c .before .before)) .inside
 
 returns-4 : tie.Need-returns-4
 returns-4 c =
@@ -59,42 +58,29 @@ asked c = c .before .before .before .before .before .before .before .before .bef
 same-dim : (c : tie.Else4) → dim (asked c .args .t .now) (asked c .args .a) ≡ dim (asked c .args .t .now) (asked c .args .b)
 same-dim c = sym (c .before .before .dim .ensures) ∙ c .if4 .left ∙ c .before .dim2 .ensures
 
-faces-requires : tie.Need-faces-requires
-faces-requires c κs = live-inside _ _ (live-first (c .before .before .before .before .before .before))
-
-faces-requires-2 : tie.Need-faces-requires-2
-faces-requires-2 c κs = live-inside _ _ (live-second (c .before .before .before .before .before))
-
 same-faces-requires : tie.Need-same-faces-requires
-same-faces-requires c κs = search needs
-
--- The comparison by value says what the table's faces say.
-compared :
-    (c : tie.After-same-faces) →
-    let s = asked (c .before .before .before) in
-    c .same-faces .result ≡ sameFaces (s .args .t .now) (s .args .a) (s .args .b)
-compared c =
-    c .same-faces .ensures
-    ∙ ap₂ sameWords (c .before .before .faces .ensures) (c .before .faces2 .ensures)
-    ∙ same-by-value _ _ _
+same-faces-requires c κs = (
+  live-true _ _ (live-first (c .before .before .before .before .before .before)) .inside,
+  live-true _ _ (live-second (c .before .before .before .before)) .inside,
+)
 
 returns-5 : tie.Need-returns-5
 returns-5 c =
-    let e = c .before .before .before .before in
+    let e = c .before .before in
     faces-differ _ _ _ (live-first (e .before .before .before .before .before .before))
     (live-second (e .before .before .before .before))
     (e .before .before .before .if3 .left)
     (same-dim e)
-    (sym (compared (c .before)) ∙ not-true (c .before .same-faces .result) (c .if5 .taken))
+    (sym (c .before .same-faces .ensures) ∙ not-true (c .before .same-faces .result) (c .if5 .taken))
 
 returns-6 : tie.Need-returns-6
 returns-6 c =
-    let e = c .before .before .before .before in
+    let e = c .before .before in
     nothing-against _ _ _ (live-first (e .before .before .before .before .before .before))
     (live-second (e .before .before .before .before))
     (e .before .before .before .if3 .left)
     (same-dim e)
-    (sym (compared (c .before)) ∙ not-false (c .before .same-faces .result) (c .if5 .left))
+    (sym (c .before .same-faces .ensures) ∙ not-false (c .before .same-faces .result) (c .if5 .left))
 
 pub pair-verdict-spec : {M : Type 1} → statement M
 pair-verdict-spec =
@@ -108,8 +94,6 @@ pair-verdict-spec =
     dim-requires
     dim-requires-2
     returns-4
-    faces-requires
-    faces-requires-2
     same-faces-requires
     returns-5
     returns-6)

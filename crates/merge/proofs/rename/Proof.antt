@@ -1,34 +1,97 @@
--- `merge::rename` meets its contract: the four calls, one after the other. Assumes nothing.
-use mathlib.Core.Path.{_∙_}
-use Rattle.merge.proofs.Stores.{sent-record}
+-- `merge::rename` meets its contract. The invariant: the words below l are the record's faces, sent on. The measure: the places left.
+-- Assumes nothing.
+use mathlib.Core.Path.{_≡_, ap, _∙_}
+use Prim.Native.Nat.{ℕ, _-_, _≤_, _<_}
+use borrow.Author.Count.{below-none}
 use borrow.Author.Needs.{needs}
+use native.Mathlib.Omega.{arith}
+use lib.ListN.{length, getD, length-set}
+use Rattle.table.specs.Kind.{faces}
+use Rattle.table.specs.Table.{face}
+use Rattle.table.proofs.Records.{faces-at}
+use Rattle.table.proofs.Stores.{stored-alike}
+use Rattle.merge.specs.Writing.{sent}
+use Rattle.merge.proofs.Passes.{words-more}
 use Rattle.merge.proofs.rename.Statement.{statement}
 use Rattle.merge.proofs.rename.Tie as tie
 
-dim-requires : tie.Need-dim-requires
+abbrev Inv-loop : tie.InvT-loop
+Inv-loop t c kept gone p x y₀ l₀ y l =
+    (l ≤ faces) × (length y ≡ faces) × ((k : ℕ) → k < l → getD y k 0 ≡ sent kept gone (face t c k))
+
+abbrev μ-loop : tie.MeasureT-loop
+μ-loop t c kept gone p x y₀ l₀ y l = faces - l
+
+dim-requires : tie.Need-dim-requires Inv-loop μ-loop
 dim-requires c κs = search needs
 
-faces-requires : tie.Need-faces-requires
+faces-requires : tie.Need-faces-requires Inv-loop μ-loop
 faces-requires c κs = search needs
 
-sent-faces-requires : tie.Need-sent-faces-requires
-sent-faces-requires c κs = search needs
+loop-holds : tie.Need-loop-holds Inv-loop μ-loop
+loop-holds c = (search needs, search needs, below-none _)
 
-store-requires : tie.Need-store-requires
-store-requires c κs = search needs
+mul-sent : tie.Need-mul-sent Inv-loop μ-loop
+mul-sent c = search needs
 
-same-length : tie.Need-same-length
+array-read-sent : tie.Need-array-read-sent Inv-loop μ-loop
+array-read-sent c = search needs
+
+sent-requires : tie.Need-sent-requires Inv-loop μ-loop
+sent-requires c κs = search needs
+
+mul-y : tie.Need-mul-y Inv-loop μ-loop
+mul-y c = search needs
+
+array-write-y : tie.Need-array-write-y Inv-loop μ-loop
+array-write-y c = search needs
+
+add-l : tie.Need-add-l Inv-loop μ-loop
+add-l c = search needs
+
+loop-less : tie.Need-loop-less Inv-loop μ-loop
+loop-less c = search needs
+
+loop-again : tie.Need-loop-again Inv-loop μ-loop
+loop-again c =
+    let p = c .before .before in
+    let a = p .before .before .before .before .before .before .args in
+    let l = p .loop in (
+      search needs,
+      simp length-set (search needs),
+      words-more _ (l .y) (l .l) _ (search needs)
+          (c .sent .ensures ∙ ap (sent _ _) (faces-at (a .t .now) (a .c) _ (p .before .faces .ensures) (l .l) (search needs)))
+          (l .inv .2),
+    )
+
+put-requires : tie.Need-put-requires Inv-loop μ-loop
+put-requires c κs = search needs
+
+same-length : tie.Need-same-length Inv-loop μ-loop
 same-length c = search needs
 
-returns : tie.Need-returns
+returns : tie.Need-returns Inv-loop μ-loop
 returns c =
-    let s = c .before .before .before .before in
-    let f = s .before .faces in
-    let d = s .before .before .before .dim in
-    c .before .before .store .ensures
-    ∙ sent-record _ _ _ _ (d .result) (f .result) (s .sent-faces .result) (d .ensures) (f .ensures) (s .sent-faces .ensures)
+    let p = c .before .before .before .before .before in
+    stored-alike (p .before .before .before .dim .ensures) (λ j h. p .loop .inv .2 j (omega arith)) (c .before .before .put .ensures)
 
 pub rename-spec : {M : Type 1} → statement M
 rename-spec =
     tie.close
-    (tie.spec dim-requires faces-requires sent-faces-requires store-requires same-length returns)
+    (tie.spec
+    Inv-loop
+    μ-loop
+    dim-requires
+    faces-requires
+    loop-holds
+    mul-sent
+    array-read-sent
+    sent-requires
+    mul-y
+    array-write-y
+    add-l
+    loop-less
+    loop-again
+    put-requires
+    same-length
+    returns)

@@ -12,10 +12,16 @@ use Rattle.merge.proofs.same_faces.Statement.{statement}
 use Rattle.merge.proofs.same_faces.Tie as tie
 
 abbrev Inv-loop : tie.InvT-loop
-Inv-loop x y j₀ j = (j ≤ faces) × ((k : ℕ) → k < j → getD x k 0 ≡ getD y k 0)
+Inv-loop t a b x y j₀ j = (j ≤ faces) × ((k : ℕ) → k < j → getD x k 0 ≡ getD y k 0)
 
 abbrev μ-loop : tie.MeasureT-loop
-μ-loop x y j₀ j = faces - j
+μ-loop t a b x y j₀ j = faces - j
+
+faces-requires : tie.Need-faces-requires Inv-loop μ-loop
+faces-requires c κs = search needs
+
+faces-requires-2 : tie.Need-faces-requires-2 Inv-loop μ-loop
+faces-requires-2 c κs = search needs
 
 loop-holds : tie.Need-loop-holds Inv-loop μ-loop
 loop-holds c = (search needs, below-none _)
@@ -33,7 +39,9 @@ array-read-if1-2 : tie.Need-array-read-if1-2 Inv-loop μ-loop
 array-read-if1-2 c = search needs
 
 returns : tie.Need-returns Inv-loop μ-loop
-returns c = words-differ _ _ (c .before .before .loop .j) (search needs) (c .if1 .taken)
+returns c =
+    let p = c .before .before in
+    words-differ _ _ _ _ _ (p .before .before .faces .ensures) (p .before .faces2 .ensures) (p .loop .j) (search needs) (c .if1 .taken)
 
 add-j : tie.Need-add-j Inv-loop μ-loop
 add-j c = search needs
@@ -45,7 +53,9 @@ loop-again : tie.Need-loop-again Inv-loop μ-loop
 loop-again c = (search needs, below-more _ _ (c .before .before .loop .inv .1) (c .if1 .left))
 
 returns-2 : tie.Need-returns-2 Inv-loop μ-loop
-returns-2 c = words-same _ _ (λ j h. c .before .loop .inv .1 j (omega arith))
+returns-2 c =
+    let p = c .before in
+    words-same _ _ _ _ _ (p .before .before .faces .ensures) (p .before .faces2 .ensures) (λ j h. p .loop .inv .1 j (omega arith))
 
 pub same-faces-spec : {M : Type 1} → statement M
 same-faces-spec =
@@ -53,6 +63,8 @@ same-faces-spec =
     (tie.spec
     Inv-loop
     μ-loop
+    faces-requires
+    faces-requires-2
     loop-holds
     mul-if1
     array-read-if1

@@ -1,6 +1,6 @@
 -- `merge::verdict_of` meets its contract: where the audit refuses its refusal stands, else the pair decides. Assumes nothing.
 use mathlib.Core.Path.{sym, _∙_}
-use Rattle.merge.proofs.Verdicts.{valid-then-pair, invalid-refuses}
+use Rattle.merge.proofs.Pairs.{invalid-refuses, valid-then-pair}
 use borrow.Author.Needs.{needs}
 use Rattle.merge.proofs.verdict_of.Statement.{statement}
 use Rattle.merge.proofs.verdict_of.Tie as tie
