@@ -2,7 +2,7 @@
 -- What carries it: a list of grounds that begins with another is decided by it where it refuses, and by the rest where it accepts.
 -- Assumes nothing.
 use mathlib.Core.Path.{_≡_, refl, sym, ap, _∙_}
-use mathlib.Core.Bool.{Bool, true, false, _&&_}
+use mathlib.Core.Bool.{Bool, true, _&&_, and-true, and-false}
 use mathlib.Core.List.{List, [], _∷_, _++_}
 use Prim.Native.Nat.{ℕ, _+_, _≤_, _<_}
 use native.Mathlib.Omega.{arith}
@@ -15,7 +15,7 @@ use Rattle.table.specs.Table.{cellsOf}
 use Rattle.table.specs.Audit.{sized, auditGrounds}
 use Rattle.table.specs.Calls.{Ground, verdict, named, leaves, Ends}
 use Rattle.table.specs.declared.Refusal.{Refusal}
-use Rattle.table.specs.declared.Refusal.the-variants.{Length, NotLive, NotClosed, TopMarked, NoRoom}
+use Rattle.table.specs.declared.Refusal.the-variants.{Length, NoRoom}
 use Rattle.table.specs.declared.Verdict.{Verdict}
 use Rattle.table.specs.declared.Verdict.the-variants.{Accepted, Refused}
 use Rattle.table.specs.declared.Named.the-variants.{Cell, NoCell}
@@ -23,61 +23,14 @@ use Rattle.audit.proofs.Sizes.{sized-is-sized}
 use Rattle.audit.proofs.Scans.{and-left}
 use Rattle.audit.proofs.Valid.{audit-accepts-iff-valid}
 use Rattle.counting.specs.Counting.{howMany}
-use Rattle.cone.specs.Cone.{free, apexOf, coneOf, newCells, coned, markedNotLive, notClosed, topMarked, noRoom, coneVerdict, coneAnswer, coneLeaves}
+use Rattle.cone.specs.Cone.{free, apexOf, coneOf, newCells, coned, noRoom, coneVerdict, coneAnswer, coneLeaves}
 use Rattle.cone.specs.Parts.{Frees, Given, Ready, markGrounds, earlyGrounds}
 use Rattle.counting.proofs.Counting.{howMany-strict}
-use Rattle.audit.proofs.Grounds.{accepted-none-applies}
+use Rattle.audit.proofs.Grounds.{accepted-none-applies, refused-first, accepted-first}
 use Rattle.cone.proofs.Acceptance.{cone-accepted}
 
-accepts-nothing-more : (r : Refusal) → Accepted ≡ Refused r → ⊥
-accepts-nothing-more r e = let z : _≡_ {A = ℕ} 0 1 = cc in omega arith
-
--- the grounds before decide where they refuse,
-refused-first : (gs hs : List Ground) (r : Refusal) → verdict gs ≡ Refused r → verdict (gs ++ hs) ≡ Refused r
-refused-first [] hs r e = absurd (accepts-nothing-more r e)
-refused-first (g ∷ gs) hs r e = go (g .applies) e (refused-first gs hs r)
-  where
-    go : (b : Bool) → pick b (Refused (g .refusal)) (verdict gs) ≡ Refused r → (verdict gs ≡ Refused r → verdict (gs ++ hs) ≡ Refused r) → pick b (Refused (g .refusal)) (verdict (gs ++ hs)) ≡ Refused r
-    go true i rest = i
-    go false i rest = rest i
-
-refused-not-accepted : (r : Refusal) → Refused r ≡ Accepted → ⊥
-refused-not-accepted r e = accepts-nothing-more r (sym e)
-
--- and leave it to the rest where they don't
-accepted-first : (gs hs : List Ground) → verdict gs ≡ Accepted → verdict (gs ++ hs) ≡ verdict hs
-accepted-first [] hs e = refl
-accepted-first (g ∷ gs) hs e = go (g .applies) e (accepted-first gs hs)
-  where
-    go : (b : Bool) → pick b (Refused (g .refusal)) (verdict gs) ≡ Accepted → (verdict gs ≡ Accepted → verdict (gs ++ hs) ≡ verdict hs) → pick b (Refused (g .refusal)) (verdict (gs ++ hs)) ≡ verdict hs
-    go true i rest = absurd (refused-not-accepted (g .refusal) i)
-    go false i rest = rest i
-
 module _ (t marks : List ℕ) where
-  -- the marks
-  pub asked-live : {a : Bool} → a ≡ markedNotLive t marks → a ≡ true → Refused NotLive ≡ verdict (markGrounds t marks)
-  asked-live is-a y = sym (rw (sym is-a ∙ y))
-
-  module _ {a : Bool} (is-a : a ≡ markedNotLive t marks) (all-live : a ≡ false) where
-    pub asked-closed : {b : Bool} → b ≡ notClosed t marks → b ≡ true → Refused NotClosed ≡ verdict (markGrounds t marks)
-    asked-closed is-b y = sym (rw (sym is-a ∙ all-live, sym is-b ∙ y))
-
-    module _ {b : Bool} (is-b : b ≡ notClosed t marks) (closed : b ≡ false) where
-      pub asked-low : {c : Bool} → c ≡ topMarked t marks → c ≡ true → Refused TopMarked ≡ verdict (markGrounds t marks)
-      asked-low is-c y = sym (rw (sym is-a ∙ all-live, sym is-b ∙ closed, sym is-c ∙ y))
-
-      pub asked-all : {c : Bool} → c ≡ topMarked t marks → c ≡ false → Accepted ≡ verdict (markGrounds t marks)
-      asked-all is-c y = sym (rw (sym is-a ∙ all-live, sym is-b ∙ closed, sym is-c ∙ y))
-
   -- the lengths and the audit
-  and-true : (b : Bool) → (b && true) ≡ b
-  and-true true = refl
-  and-true false = refl
-
-  and-false : (b : Bool) → (b && false) ≡ false
-  and-false true = refl
-  and-false false = refl
-
   pub other-length : (length marks ≡ wordsFor (cellsOf t) → ⊥) → Refused Length ≡ verdict (earlyGrounds t marks)
   other-length ne = sym (rw (ne-eqb (length marks) (wordsFor (cellsOf t)) ne, and-false (sized t)))
 

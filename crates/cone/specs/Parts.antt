@@ -1,36 +1,30 @@
--- The tests of one cell, what the two passes that fix the new numbers leave, and what the writing of the new cells starts from.
+-- Where the marks end, what the two passes that fix the new numbers leave, and what the writing of the new cells starts from.
 -- A reader need not believe this file: it says what the parts of the call hand to one another.
 use mathlib.Core.Path.{_≡_}
-use mathlib.Core.Bool.{Bool, true, _&&_, not}
+use mathlib.Core.Bool.{Bool, true, false, _&&_, not}
 use mathlib.Core.List.{List, [], _∷_}
-use Prim.Native.Nat.{ℕ, suc, _+_, _≤_, _<_}
+use Prim.Native.Nat.{ℕ, suc, _+_, _*_, _-_, _≤_, _<_}
 use lib.ListN.{length, getD}
 use lib.Dec.{eqb, ltb}
-use Rattle.bitset.specs.Bits.{wordsFor, member}
+use Rattle.bitset.specs.Bits.{bits, wordsFor, member}
 use Rattle.table.specs.Kind.{capacity, top, freeMark, pick, used}
-use Rattle.table.specs.Table.{cellsOf, dim, face, live}
-use Rattle.counting.specs.Counting.{howMany, nth, someHas}
+use Rattle.table.specs.Table.{cellsOf, dim, face}
+use Rattle.counting.specs.Counting.{howMany, nth}
 use Rattle.table.specs.Audit.{sized, onValidity}
 use Rattle.table.specs.Calls.{Ground}
 use Rattle.table.specs.declared.Refusal.the-variants.{Length, NotLive, NotClosed, TopMarked}
 use Rattle.table.specs.declared.Verdict.the-variants.{Accepted}
 use Rattle.cone.specs.Cone.{free, apexOf, coneOf, markedNotLive, notClosed, topMarked, coneVerdict}
 
--- c is marked and no live cell
-abbrev pub strayAt : List ℕ → List ℕ → ℕ → Bool
-strayAt t marks c = member marks c && not (live t c)
+-- every mark is below e, and where e is not 0 the number before it is marked
+pub record MarkedBelow (marks : List ℕ) (e : ℕ) : Type 0 where
+  pub inside : e ≤ bits * length marks
+  pub last : 0 < e → member marks (e - 1) ≡ true
+  pub none : (s : ℕ) → e ≤ s → member marks s ≡ false
 
 -- face j of cell c is not marked
 abbrev pub openFace : List ℕ → List ℕ → ℕ → ℕ → Bool
 openFace t marks c j = not (member marks (face t c j))
-
--- c is marked and one of its faces is not
-abbrev pub openAt : List ℕ → List ℕ → ℕ → Bool
-openAt t marks c = member marks c && someHas (openFace t marks c) (used (dim t c))
-
--- c is marked and has the top dimension
-abbrev pub topAt : List ℕ → List ℕ → ℕ → Bool
-topAt t marks c = member marks c && eqb (dim t c) top
 
 -- fs lists the free numbers of t in rising order, r of them
 pub record Frees (t : List ℕ) (r : ℕ) (fs : List ℕ) : Type 0 where

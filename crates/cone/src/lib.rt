@@ -20,7 +20,7 @@ use table::Verdict;
 fn judged(t: &[u16], marks: &[u64]) -> Verdict
     ensures { λ r. ⌜ r ≡ verdict (earlyGrounds (now (t .entry)) (now (marks .entry))) ⌝ }
 {
-    if marks.len() != bitset::words_for(t.len() / Table::WORDS) {
+    if marks.len() != bitset::words_for(Table::room(t)) {
         return Verdict::Refused(Refusal::Length);
     }
     let valid = audit::audit(t);

@@ -1,18 +1,24 @@
 -- `judged` meets its contract: the lengths, then the audit, then the marks. Assumes nothing.
-use mathlib.Core.Path.{sym, _∙_}
+use mathlib.Core.Path.{_≡_, sym, _∙_}
 use native.Mathlib.Omega.{arith}
 use borrow.Author.Needs.{needs}
+use lib.ListN.{length}
+use Rattle.bitset.specs.Bits.{wordsFor}
+use Rattle.table.specs.Table.{cellsOf}
 use Rattle.cone.proofs.Refusals.{other-length, audit-refused, audit-passed, few-words}
 use Rattle.cone.proofs.judged.Statement.{statement}
 use Rattle.cone.proofs.judged.Tie as tie
+
+room-requires : tie.Need-room-requires
+room-requires c κs = search needs
 
 words-for-requires : tie.Need-words-for-requires
 words-for-requires c κs = search needs
 
 returns : tie.Need-returns
 returns c =
-    let a = c .before .before .before .before .args in
-    other-length (a .t .now) (a .marks .now) (λ e. omega (arith, c .before .words-for .ensures, c .if1 .taken))
+    let a = c .before .before .before .before .before .args in
+    other-length (a .t .now) (a .marks .now) (λ e. omega (arith, c .if1 .taken))
 
 audit-requires : tie.Need-audit-requires
 audit-requires c κs = search needs
@@ -23,31 +29,32 @@ enum-known-valid c = search needs
 enum-told : tie.Need-enum-told
 enum-told c = search needs
 
+right : (c : tie.Else1) → let a = c .before .before .before .before .before .args in length (a .marks .now) ≡ wordsFor (cellsOf (a .t .now))
+right c = omega arith
+
 asked-requires : tie.Need-asked-requires
 asked-requires c κs =
-    let a = c .before .before .before .before .before .before .before .args in
     let d = c .before .before in
-    few-words (a .t .now) (a .marks .now) (omega (arith, d .before .if1 .left, d .before .before .words-for .ensures))
-    (sym (d .audit .ensures) ∙ c .enum-told .given .1)
+    let a = d .before .before .before .before .before .before .args in
+    few-words (a .t .now) (a .marks .now) (right (d .before)) (sym (d .audit .ensures) ∙ c .enum-told .given .1)
 
 returns-2 : tie.Need-returns-2
 returns-2 c =
-    let a = c .before .before .before .before .before .before .before .before .args in
     let d = c .before .before .before in
-    audit-refused (a .t .now) (a .marks .now) (omega (arith, d .before .if1 .left, d .before .before .words-for .ensures)) _
-    (sym (d .audit .ensures) ∙ c .before .valid .given .1)
+    let a = d .before .before .before .before .before .before .args in
+    audit-refused (a .t .now) (a .marks .now) (right (d .before)) _ (sym (d .audit .ensures) ∙ c .before .valid .given .1)
 
 returns-3 : tie.Need-returns-3
 returns-3 c =
-    let a = c .before .before .before .before .before .before .before .before .args in
     let d = c .before .before .before in
-    audit-passed (a .t .now) (a .marks .now) (omega (arith, d .before .if1 .left, d .before .before .words-for .ensures))
-    (sym (d .audit .ensures) ∙ c .before .enum-told .given .1) _ (c .asked .ensures)
+    let a = d .before .before .before .before .before .before .args in
+    audit-passed (a .t .now) (a .marks .now) (right (d .before)) (sym (d .audit .ensures) ∙ c .before .enum-told .given .1) _ (c .asked .ensures)
 
 pub judged-spec : {M : Type 1} → statement M
 judged-spec =
     tie.close
     (tie.spec
+    room-requires
     words-for-requires
     returns
     audit-requires

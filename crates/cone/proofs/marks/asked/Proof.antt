@@ -1,46 +1,101 @@
--- `asked` meets its contract: each way out is the first ground that applies, by the tests that led there. Assumes nothing.
+-- `asked` meets its contract. The invariant: `Passed`, what the pass knows before cell c. The measure: the cells left up to the last
+-- mark. Assumes nothing.
+use borrow.Author.Tests.{not-true, not-false}
 use borrow.Author.Needs.{needs}
-use Rattle.cone.proofs.Refusals.{asked-live, asked-closed, asked-low, asked-all}
+use native.Mathlib.Omega.{arith}
+use Prim.Native.Nat.{_≤_, _-_}
+use mathlib.Core.Path.{sym, _∙_}
+use mathlib.Core.Logic.{⊎-elim}
+use Rattle.table.specs.Table.{cellsOf}
+use Rattle.cone.proofs.Searches.{Passed, pass-starts, pass-unmarked, pass-marked, dead-refused, past-refused, Decides, pass-ends}
 use Rattle.cone.proofs.marks.asked.Statement.{statement}
 use Rattle.cone.proofs.marks.asked.Tie as tie
 
-stray-requires : tie.Need-stray-requires
-stray-requires c κs = search needs
+abbrev Inv-loop : tie.InvT-loop
+Inv-loop t marks n end leaks₀ top₀ c₀ leaks top c = (c ≤ end) × (end ≤ cellsOf t) × Passed t marks c leaks top
 
-returns : tie.Need-returns
-returns c =
-    let a = c .before .before .before .before .args in
-    asked-live (a .t .now) (a .marks .now) (c .before .stray .ensures) (c .if1 .taken)
+abbrev μ-loop : tie.MeasureT-loop
+μ-loop t marks n end leaks₀ top₀ c₀ leaks top c = end - c
 
-open-requires : tie.Need-open-requires
-open-requires c κs = search needs
+room-requires : tie.Need-room-requires Inv-loop μ-loop
+room-requires c κs = search needs
 
-returns-2 : tie.Need-returns-2
+marks-end-requires : tie.Need-marks-end-requires Inv-loop μ-loop
+marks-end-requires c κs = search needs
+
+returns : tie.Need-returns Inv-loop μ-loop
+returns c = past-refused _ _ _ (c .before .marks-end .ensures) (omega arith)
+
+loop-holds : tie.Need-loop-holds Inv-loop μ-loop
+loop-holds c = (omega arith, omega arith, pass-starts _ _)
+
+has-requires : tie.Need-has-requires Inv-loop μ-loop
+has-requires c κs = search needs
+
+live-requires : tie.Need-live-requires Inv-loop μ-loop
+live-requires c κs = search needs
+
+returns-2 : tie.Need-returns-2 Inv-loop μ-loop
 returns-2 c =
-    let a = c .before .before .before .before .before .before .args in
-    let d = c .before .before in
-    asked-closed (a .t .now) (a .marks .now) (d .before .stray .ensures) (d .if1 .left) (c .before .open .ensures) (c .if2 .taken)
+    let b = c .before .before .before in
+    dead-refused _ _ _ (sym (b .has .ensures) ∙ c .before .before .if2 .taken) (sym (c .before .live .ensures) ∙ not-true _ (c .if3 .taken))
 
-topmost-requires : tie.Need-topmost-requires
-topmost-requires c κs = search needs
+face-open-requires : tie.Need-face-open-requires Inv-loop μ-loop
+face-open-requires c κs = search needs
 
-returns-3 : tie.Need-returns-3
-returns-3 c =
-    let a = c .before .before .before .before .before .before .before .before .args in
-    let d = c .before .before in
-    let e = d .before .before in
-    asked-low (a .t .now) (a .marks .now) (e .before .stray .ensures) (e .if1 .left) (d .before .open .ensures) (d .if2 .left)
-    (c .before .topmost .ensures) (c .if3 .taken)
+dim-requires : tie.Need-dim-requires Inv-loop μ-loop
+dim-requires c κs = search needs
 
-returns-4 : tie.Need-returns-4
-returns-4 c =
-    let a = c .before .before .before .before .before .before .before .before .args in
-    let d = c .before .before in
-    let e = d .before .before in
-    asked-all (a .t .now) (a .marks .now) (e .before .stray .ensures) (e .if1 .left) (d .before .open .ensures) (d .if2 .left)
-    (c .before .topmost .ensures) (c .if3 .left)
+add-c : tie.Need-add-c Inv-loop μ-loop
+add-c c = search needs
+
+loop-less : tie.Need-loop-less Inv-loop μ-loop
+loop-less c = search needs
+
+loop-again : tie.Need-loop-again Inv-loop μ-loop
+loop-again c =
+    let b = c .before in
+    let i = b .before .before .loop .inv in (
+      omega arith,
+      i .1,
+      ⊎-elim
+          (λ w. rw (w .5, w .6) (pass-marked _ _ _ _ _ (i .2) _ _ (sym (b .has .ensures) ∙ w .0 .taken) (sym (w .1 .ensures) ∙ not-false _ (w .2 .left)) (w .3 .ensures) (w .4 .ensures)))
+          (λ w. rw (w .1, w .2) (pass-unmarked _ _ _ _ _ (i .2) (sym (b .has .ensures) ∙ w .0 .left)))
+          (c .if2 .came),
+    )
+
+over : (c : tie.After-loop Inv-loop μ-loop) → let a = c .before .before .before .before .before .before .before .args in Decides (a .t .now) (a .marks .now) (c .before .loop .leaks) (c .before .loop .top)
+over c =
+    let l = c .before in
+    pass-ends _ _ _ _ _ _ (omega arith) (l .before .before .marks-end .ensures) (l .loop .inv .1) (l .loop .inv .2)
+
+returns-3 : tie.Need-returns-3 Inv-loop μ-loop
+returns-3 c = sym (over (c .before) ∙ rw (c .if4 .taken))
+
+returns-4 : tie.Need-returns-4 Inv-loop μ-loop
+returns-4 c = sym (over (c .before .before) ∙ rw (c .before .if4 .left, c .if5 .taken))
+
+returns-5 : tie.Need-returns-5 Inv-loop μ-loop
+returns-5 c = sym (over (c .before .before) ∙ rw (c .before .if4 .left, c .if5 .left))
 
 pub asked-spec : {M : Type 1} → statement M
 asked-spec =
     tie.close
-    (tie.spec stray-requires returns open-requires returns-2 topmost-requires returns-3 returns-4)
+    (tie.spec
+    Inv-loop
+    μ-loop
+    room-requires
+    marks-end-requires
+    returns
+    loop-holds
+    has-requires
+    live-requires
+    returns-2
+    face-open-requires
+    dim-requires
+    add-c
+    loop-less
+    loop-again
+    returns-3
+    returns-4
+    returns-5)
