@@ -3,10 +3,11 @@
 use mathlib.Core.Path.{_≡_, refl, sym, ap, subst, _∙_}
 use mathlib.Core.Bool.{Bool, true, false}
 use mathlib.Core.List.{List}
+use mathlib.Core.Logic.{⊎-elim}
 use Prim.Native.Nat.{ℕ, _+_, _*_, _%_, _≤_, _<_}
 use native.Mathlib.Nat.{mul-le-mul}
 use native.Mathlib.Omega.{arith}
-use borrow.Author.Tests.{eqb-true, eqb-false}
+use borrow.Author.Tests.{eq-eqb, ne-eqb}
 use lib.ListN.{length, getD, set, length-set}
 use lib.Seq.{getD-set-same, getD-set-other}
 use lib.IntN.{ℤ, pos, negℤ, natAbs, _+ℤ_, +ℤ-assoc, +ℤ-idr}
@@ -15,12 +16,12 @@ use mir.Syntax.{w64}
 use mir.Val.{SFits}
 use Rattle.table.specs.Kind.{faces, pick}
 use Rattle.table.specs.Table.{face}
+use Rattle.table.proofs.Cases.{same-or-not}
 use Rattle.reading.specs.Sums.{sumTo, integers}
 use Rattle.reading.specs.Boundary.{limit}
 use Rattle.reading.specs.Steps.{turned, placeAdds, put, added, Adding}
 use Rattle.reading.proofs.SumLaws.{sum-none, sum-next}
 use Rattle.reading.proofs.Sizes.{size-add, size-minus, size-sum, fits-below}
-use Rattle.reading.proofs.BoundaryLaws.{by-test}
 use Rattle.reading.proofs.Registers.{back, back-is}
 use Rattle.reading.proofs.Lists.{is-integers}
 
@@ -29,7 +30,7 @@ turned-by : (b : Bool) (z : ℤ) → natAbs (pick b z (negℤ z)) ≡ natAbs z
 turned-by true z = refl
 turned-by false z = size-minus z
 
-pub size-turned : (j : ℕ) (z : ℤ) → natAbs (turned j z) ≡ natAbs z
+size-turned : (j : ℕ) (z : ℤ) → natAbs (turned j z) ≡ natAbs z
 unfolding turned
 size-turned j z = turned-by (eqb (j % 2) 0) z
 
@@ -37,7 +38,7 @@ place-by : (b : Bool) (y : ℤ) → natAbs (pick b y (pos 0)) ≤ natAbs y
 place-by true y = omega arith
 place-by false y = omega arith
 
-pub size-place : (t : List ℕ) (c : ℕ) (z : ℤ) (u j : ℕ) → natAbs (placeAdds t c z u j) ≤ natAbs z
+size-place : (t : List ℕ) (c : ℕ) (z : ℤ) (u j : ℕ) → natAbs (placeAdds t c z u j) ≤ natAbs z
 unfolding placeAdds
 size-place t c z u j =
     subst (λ (n : ℕ). natAbs (pick (eqb (face t c j) u) (turned j z) (pos 0)) ≤ n) (size-turned j z)
@@ -58,13 +59,13 @@ module _ (t : List ℕ) (c : ℕ) (z : ℤ) (y₀ : List ℤ) where
       ap (λ (w : ℤ). getD y₀ u (pos 0) +ℤ w) (sum-next m (placeAdds t c z u))
       ∙ sym (+ℤ-assoc (getD y₀ u (pos 0)) (sumTo m (placeAdds t c z u)) (placeAdds t c z u m))
 
-  place-here : (m u : ℕ) → eqb (face t c m) u ≡ true → placeAdds t c z u m ≡ turned m z
+  place-here : (m u : ℕ) → face t c m ≡ u → placeAdds t c z u m ≡ turned m z
   unfolding placeAdds
-  place-here m u e = rw e
+  place-here m u e = rw (eq-eqb (face t c m) u e)
 
-  place-there : (m u : ℕ) → eqb (face t c m) u ≡ false → placeAdds t c z u m ≡ pos 0
+  place-there : (m u : ℕ) → (face t c m ≡ u → ⊥) → placeAdds t c z u m ≡ pos 0
   unfolding placeAdds
-  place-there m u e = rw e
+  place-there m u h = rw (ne-eqb (face t c m) u h)
 
   size-added : (m u : ℕ) → natAbs (added t c z y₀ m u) ≤ natAbs (getD y₀ u (pos 0)) + m * natAbs z
   unfolding added
@@ -88,24 +89,22 @@ module _ (t : List ℕ) (c : ℕ) (z : ℤ) (y₀ : List ℤ) where
     pub place-allowed : (f < length y) × SFits w64 (getD y f (pos 0) +ℤ turned m z)
     place-allowed = (place-inside, place-fits)
 
-    at-face : (u : ℕ) → eqb f u ≡ eqb (face t c m) u
-    at-face u = ap (λ (w : ℕ). eqb w u) at
-
     place-puts : (u : ℕ) → u < length y → getD (put y f m z) u (pos 0) ≡ added t c z y₀ (m + 1) u
     place-puts u l =
         let new : ℤ = getD y f (pos 0) +ℤ turned m z in
-        by-test (eqb f u)
+        ⊎-elim
         (λ e.
-        subst (λ (k : ℕ). getD (set y f new) k (pos 0) ≡ new) (eqb-true f u e) (getD-set-same y f new (pos 0) place-inside)
-        ∙ ap (λ (w : ℤ). w +ℤ turned m z) (so-far f place-inside ∙ ap (added t c z y₀ m) (eqb-true f u e))
-        ∙ ap (λ (w : ℤ). added t c z y₀ m u +ℤ w) (sym (place-here m u (sym (at-face u) ∙ e)))
+        subst (λ (k : ℕ). getD (set y f new) k (pos 0) ≡ new) e (getD-set-same y f new (pos 0) place-inside)
+        ∙ ap (λ (w : ℤ). w +ℤ turned m z) (so-far f place-inside ∙ ap (added t c z y₀ m) e)
+        ∙ ap (λ (w : ℤ). added t c z y₀ m u +ℤ w) (sym (place-here m u (sym at ∙ e)))
         ∙ sym (added-next m u))
-        (λ e.
-        getD-set-other y f u new (pos 0) (λ q. eqb-false f u e (sym q))
+        (λ ne.
+        getD-set-other y f u new (pos 0) (λ q. ne (sym q))
         ∙ so-far u l
         ∙ sym (+ℤ-idr (added t c z y₀ m u))
-        ∙ ap (λ (w : ℤ). added t c z y₀ m u +ℤ w) (sym (place-there m u (sym (at-face u) ∙ e)))
+        ∙ ap (λ (w : ℤ). added t c z y₀ m u +ℤ w) (sym (place-there m u (λ q. ne (at ∙ q))))
         ∙ sym (added-next m u))
+        (same-or-not f u)
 
     put-long : (y′ : List ℤ) → y′ ≡ put y f m z → length y′ ≡ length y₀
     put-long y′ e = ap length e ∙ length-set y f (getD y f (pos 0) +ℤ turned m z) ∙ long

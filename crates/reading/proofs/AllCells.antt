@@ -3,35 +3,37 @@
 use mathlib.Core.Path.{_≡_, sym, ap, subst, _∙_}
 use mathlib.Core.Bool.{true}
 use mathlib.Core.List.{List}
+use mathlib.Core.Logic.{⊎-elim}
 use Prim.Native.Nat.{ℕ, _+_, _^_, _≤_, _<_}
 use native.Mathlib.Omega.{arith}
-use borrow.Author.Tests.{ne-eqb, leb-true, ltb-true, ltb-false}
+use borrow.Author.Tests.{ne-eqb, leb-true}
 use lib.ListN.{length, getD, List·getD-eq-default}
 use lib.IntN.{ℤ, pos, natAbs, _+ℤ_}
-use lib.Dec.{eqb, ltb}
+use lib.Dec.{eqb}
 use mir.Syntax.{w64}
 use mir.Val.{SFits, ofZ}
 use Rattle.table.specs.Kind.{used}
-use Rattle.table.specs.Table.{cellsOf, face}
+use Rattle.table.specs.Table.{cellsOf, face, isCell}
+use Rattle.table.proofs.Cases.{below-or-not}
 use Rattle.audit.proofs.Scans.{or-else, all-true}
 use Rattle.audit.proofs.Places.{used-fits}
 use Rattle.reading.specs.Sums.{sumTo, integers}
-use Rattle.reading.specs.Boundary.{isCell, boundaryOf, limit, coefficient}
+use Rattle.reading.specs.Boundary.{boundaryOf, limit, coefficient}
 use Rattle.reading.specs.Steps.{placeAdds, reached, added, allSmall, allPlaced, Adding, Addable}
 use Rattle.reading.proofs.Lists.{integers-length, integers-at, is-integers}
 use Rattle.reading.proofs.Living.{CellOf, cell-true}
-use Rattle.reading.proofs.BoundaryLaws.{by-test, boundary-is-published}
+use Rattle.reading.proofs.BoundaryLaws.{boundary-is-published}
 use Rattle.reading.proofs.Testing.{smallAt, placedAt, size-zero}
 use Rattle.reading.proofs.Registers.{back, back-is, no-zero}
 use Rattle.reading.proofs.Adding.{adding-back}
 use Rattle.reading.proofs.Reaching.{reached-none, reached-past, reached-cell, reached-all, size-reached}
 
 -- what the two tests of a chain say of each coefficient
-pub each-small : (x : List ℤ) → allSmall x ≡ true → (c : ℕ) → c < length x → natAbs (coefficient x c) ≤ limit
+each-small : (x : List ℤ) → allSmall x ≡ true → (c : ℕ) → c < length x → natAbs (coefficient x c) ≤ limit
 unfolding allSmall
 each-small x e c l = leb-true (natAbs (coefficient x c)) limit (all-true (smallAt x) (length x) e c l)
 
-pub each-placed : (t : List ℕ) (x : List ℤ) (p : ℕ) → allPlaced t x p ≡ true → (c : ℕ) → c < cellsOf t → (coefficient x c ≡ pos 0 → ⊥) → isCell t p c ≡ true
+each-placed : (t : List ℕ) (x : List ℤ) (p : ℕ) → allPlaced t x p ≡ true → (c : ℕ) → c < cellsOf t → (coefficient x c ≡ pos 0 → ⊥) → isCell t p c ≡ true
 unfolding allPlaced
 each-placed t x p e c l h =
     or-else (eqb (natAbs (coefficient x c)) 0) (isCell t p c) (all-true (placedAt t x p) (cellsOf t) e c l)
@@ -55,16 +57,13 @@ module _ (t : List ℕ) (x : List ℤ) (p : ℕ) (y₀ : List ℤ) (a : Addable 
 
     room-here : c ≤ cellsOf t → (u : ℕ) → natAbs (getD y u (pos 0)) ≤ 2 ^ 62
     room-here h u =
-        by-test (ltb u (cellsOf t))
-        (λ e.
-        subst (λ (w : ℤ). natAbs w ≤ 2 ^ 62) (sym (reached-at u (ltb-true u (cellsOf t) e)))
-        (omega (arith, size-reached t p (coefficient x) small-here c u h, a .valid .sized .room)))
-        (λ e.
-        let k : length y ≤ u = omega (arith, reached-long, ltb-false u (cellsOf t) e) in
-        subst (λ (w : ℤ). natAbs w ≤ 2 ^ 62) (sym (List·getD-eq-default y (pos 0) k)) (let z : 0 ≤ 2 ^ 62 = omega arith in z))
+        ⊎-elim
+        (λ l. rw (reached-at u l) (omega (arith, size-reached t p (coefficient x) small-here c u h, a .valid .sized .room)))
+        (λ l. let k : length y ≤ u = omega (arith, reached-long) in rw (List·getD-eq-default y (pos 0) k) (omega arith))
+        (below-or-not u (cellsOf t))
 
     -- the next cell can be added,
-    pub cell-fits : c < cellsOf t → (coefficient x c ≡ pos 0 → ⊥) → Adding t c (used p) (coefficient x c) y
+    cell-fits : c < cellsOf t → (coefficient x c ≡ pos 0 → ⊥) → Adding t c (used p) (coefficient x c) y
     cell-fits l h =
         let k : CellOf t p c = cell-true t p c (each-placed t x p (a .placed) c l h) in
         record {

@@ -1,30 +1,31 @@
 -- The boundary is the published one.
 -- What carries it: at a number that is no (p−1)-cell the published sum has no summand, since every face of a p-cell is a
 -- (p−1)-cell. Assumes nothing.
-use mathlib.Core.Path.{_≡_, refl, sym, ap, subst, _∙_}
+use mathlib.Core.Path.{_≡_, refl, sym, ap, _∙_}
 use mathlib.Core.Bool.{Bool, true, false, false≢true}
 use mathlib.Core.List.{List}
+use mathlib.Core.Logic.{⊎-elim}
 use Prim.Native.Nat.{ℕ, zero, suc}
-use borrow.Author.Tests.{eqb-true}
+use borrow.Author.Tests.{ne-eqb}
 use lib.IntN.{ℤ, pos, _*ℤ_, *ℤ-zero, *ℤ-comm}
 use lib.Dec.{eqb}
 use Rattle.table.specs.Kind.{pick, used}
-use Rattle.table.specs.Table.{cellsOf, dim, face, Valid}
+use Rattle.table.specs.Table.{cellsOf, dim, face, Valid, isCell}
+use Rattle.table.proofs.Cases.{true-or-false, same-or-not}
 use Rattle.reading.specs.Sums.{sumTo, sign}
 use Rattle.reading.specs.Incidence.{incidenceOf}
-use Rattle.reading.specs.Boundary.{isCell, boundaryOf, one, cellBoundary, publishedBoundary}
+use Rattle.reading.specs.Boundary.{boundaryOf, one, cellBoundary, publishedBoundary}
 use Rattle.reading.proofs.Integers.{one-times}
 use Rattle.reading.proofs.SumLaws.{sum-none, sum-same, sum-zero}
 use Rattle.reading.proofs.Living.{CellOf, cell-true, cell-says, face-cell}
 
--- a test, and what follows of either answer
-pub by-test {ℓ} : {A : Type ℓ} (b : Bool) → (b ≡ true → A) → (b ≡ false → A) → A
-by-test true f g = f refl
-by-test false f g = g refl
-
 pub pick-times : (b : Bool) (a z : ℤ) → pick b (a *ℤ z) (pos 0) ≡ a *ℤ pick b z (pos 0)
 pick-times true a z = refl
 pick-times false a z = sym (*ℤ-zero a)
+
+pub pick-zero : (b : Bool) (z : ℤ) → (b ≡ true → z ≡ pos 0) → pick b z (pos 0) ≡ pos 0
+pick-zero true z h = h refl
+pick-zero false z h = refl
 
 times-chosen : (b : Bool) (a : ℤ) → pick b a (pos 0) ≡ a *ℤ pick b (pos 1) (pos 0)
 times-chosen true a = sym (*ℤ-comm a (pos 1) ∙ one-times a)
@@ -42,9 +43,9 @@ incidence-is t s u =
     sum-same (used (dim t s)) (λ j. pick (eqb (face t s j) u) (sign j) (pos 0)) (λ j. sign j *ℤ one (face t s j) u)
     (λ j l. sign-at j (face t s j) u)
 
-one-elsewhere : (f u : ℕ) → eqb f u ≡ false → one f u ≡ pos 0
+one-elsewhere : (f u : ℕ) → (f ≡ u → ⊥) → one f u ≡ pos 0
 unfolding one
-one-elsewhere f u e = rw e
+one-elsewhere f u h = rw (ne-eqb f u h)
 
 -- a point has no boundary
 point-bounds : (t : List ℕ) (c u : ℕ) → dim t c ≡ 0 → cellBoundary t c u ≡ pos 0
@@ -59,37 +60,28 @@ module _ (t : List ℕ) (v : Valid t) where
   unfolding cellBoundary
   bounds-cells p c u h e =
       sum-zero (used (dim t c)) (λ i. sign i *ℤ one (face t c i) u) (λ i l.
-      by-test (eqb (face t c i) u)
-      (λ q. let z : isCell t p u ≡ true = subst (λ (w : ℕ). isCell t p w ≡ true) (eqb-true (face t c i) u q) (cell-says t p (face t c i) (face-cell t v p c i h l)) in absurd (clash (isCell t p u) z e))
-      (λ q. ap (λ (z : ℤ). sign i *ℤ z) (one-elsewhere (face t c i) u q) ∙ *ℤ-zero (sign i)))
-    where
-      clash : (b : Bool) → b ≡ true → b ≡ false → ⊥
-      clash b y n = false≢true (sym n ∙ y)
+      ⊎-elim
+      (λ q. absurd (false≢true (sym e ∙ ap (isCell t p) (sym q) ∙ cell-says t p (face t c i) (face-cell t v p c i h l))))
+      (λ q. ap (λ (z : ℤ). sign i *ℤ z) (one-elsewhere (face t c i) u q) ∙ *ℤ-zero (sign i))
+      (same-or-not (face t c i) u))
 
-  point-term : (x : ℕ → ℤ) (c u : ℕ) → pick (isCell t 0 c) (x c *ℤ cellBoundary t c u) (pos 0) ≡ pos 0
-  point-term x c u =
-      by-test (isCell t 0 c)
-      (λ e. rw (e, point-bounds t c u (cell-true t 0 c e .level)) (*ℤ-zero (x c)))
-      (λ e. rw e)
-
-  published-elsewhere : (p : ℕ) (x : ℕ → ℤ) (u : ℕ) → isCell t p u ≡ false → publishedBoundary t (suc p) x u ≡ pos 0
+  -- where no p-cell has a boundary at u, no p-chain has
+  published-zero : (p : ℕ) (x : ℕ → ℤ) (u : ℕ) → ((c : ℕ) → CellOf t p c → cellBoundary t c u ≡ pos 0) → publishedBoundary t p x u ≡ pos 0
   unfolding publishedBoundary
-  published-elsewhere p x u e =
-      sum-zero (cellsOf t) (λ c. pick (isCell t (suc p) c) (x c *ℤ cellBoundary t c u) (pos 0)) (λ c l.
-      by-test (isCell t (suc p) c)
-      (λ q. rw (q, bounds-cells p c u (cell-true t (suc p) c q) e) (*ℤ-zero (x c)))
-      (λ q. rw q))
+  published-zero p x u h =
+      sum-zero (cellsOf t) (λ c. pick (isCell t p c) (x c *ℤ cellBoundary t c u) (pos 0))
+      (λ c l. pick-zero (isCell t p c) (x c *ℤ cellBoundary t c u) (λ e. ap (λ (z : ℤ). x c *ℤ z) (h c (cell-true t p c e)) ∙ *ℤ-zero (x c)))
 
   -- The boundary that a call computes is the published one, at every number.
   pub boundary-is-published : (p : ℕ) (x : ℕ → ℤ) (u : ℕ) → boundaryOf t p x u ≡ publishedBoundary t p x u
   unfolding boundaryOf publishedBoundary
-  boundary-is-published zero x u =
-      sym (sum-zero (cellsOf t) (λ c. pick (isCell t 0 c) (x c *ℤ cellBoundary t c u) (pos 0)) (λ c l. point-term x c u))
+  boundary-is-published zero x u = sym (published-zero 0 x u (λ c k. point-bounds t c u (k .level)))
   boundary-is-published (suc p) x u =
-      by-test (isCell t p u)
+      ⊎-elim
       (λ e.
       rw e
       (sum-same (cellsOf t) (λ c. pick (isCell t (suc p) c) (x c *ℤ incidenceOf t c u) (pos 0))
       (λ c. pick (isCell t (suc p) c) (x c *ℤ cellBoundary t c u) (pos 0))
       (λ c l. ap (λ (z : ℤ). pick (isCell t (suc p) c) (x c *ℤ z) (pos 0)) (incidence-is t c u))))
-      (λ e. rw e (sym (published-elsewhere p x u e)))
+      (λ e. rw e (sym (published-zero (suc p) x u (λ c k. bounds-cells p c u k e))))
+      (true-or-false (isCell t p u))

@@ -1,12 +1,12 @@
 -- The sign of a face place, and the square of places whose two halves cancel.
 -- What carries it: the place (j, l) with l < j against (l, j − 1); induction on the side of the square. Assumes nothing.
 use mathlib.Core.Path.{_≡_, refl, sym, ap, _∙_}
-use mathlib.Core.Bool.{Bool, true, false}
+use mathlib.Core.Logic.{⊎-elim}
 use Prim.Native.Nat.{ℕ, zero, suc, _-_, _%_, _≤_, _<_}
 use native.Mathlib.Omega.{arith}
-use borrow.Author.Tests.{eq-eqb, ne-eqb, eqb-true, eqb-false}
+use borrow.Author.Tests.{eq-eqb, ne-eqb}
 use lib.IntN.{ℤ, pos, negsuc, negℤ, _+ℤ_, _*ℤ_, +ℤ-idl, +ℤ-invr, *ℤ-comm}
-use lib.Dec.{eqb}
+use Rattle.table.proofs.Cases.{same-or-not}
 use Rattle.reading.specs.Sums.{sumTo, sign}
 use Rattle.reading.proofs.Integers.{minus-times, times-regroup}
 use Rattle.reading.proofs.SumLaws.{sum-same, sum-of-sums, sum-minus}
@@ -19,19 +19,15 @@ pub odd-sign : (j : ℕ) → (j % 2 ≡ 0 → ⊥) → sign j ≡ negsuc 0
 unfolding sign
 odd-sign j h = rw (ne-eqb (j % 2) 0 h)
 
-next-by : (j : ℕ) (b : Bool) → eqb (j % 2) 0 ≡ b → sign (suc j) ≡ negℤ (sign j)
-next-by j true e =
-    let z : j % 2 ≡ 0 = eqb-true (j % 2) 0 e in
-    rw (even-sign j z) (odd-sign (suc j) (λ k. omega arith))
-next-by j false e =
-    let z : (j % 2 ≡ 0 → ⊥) = eqb-false (j % 2) 0 e in
-    rw (odd-sign j z) (even-sign (suc j) (omega arith))
-
-pub next-sign : (j : ℕ) → sign (suc j) ≡ negℤ (sign j)
-next-sign j = next-by j (eqb (j % 2) 0) refl
+next-sign : (j : ℕ) → sign (suc j) ≡ negℤ (sign j)
+next-sign j =
+    ⊎-elim
+    (λ e. rw (even-sign j e) (odd-sign (suc j) (λ k. omega arith)))
+    (λ h. rw (odd-sign j h) (even-sign (suc j) (omega arith)))
+    (same-or-not (j % 2) 0)
 
 -- For any numbers at pairs of places, j up to n and l below n, of which those of one half are the others' negatives, the sum is 0.
-pub halves-cancel : (n : ℕ) (b : ℕ → ℕ → ℤ) → ((j l : ℕ) → l ≤ j → j < n → b (suc j) l ≡ negℤ (b l j)) → sumTo (suc n) (λ j. sumTo n (b j)) ≡ pos 0
+halves-cancel : (n : ℕ) (b : ℕ → ℕ → ℤ) → ((j l : ℕ) → l ≤ j → j < n → b (suc j) l ≡ negℤ (b l j)) → sumTo (suc n) (λ j. sumTo n (b j)) ≡ pos 0
 unfolding sumTo
 halves-cancel zero b h = refl
 halves-cancel (suc n) b h =

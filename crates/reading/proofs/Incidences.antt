@@ -4,16 +4,18 @@
 use mathlib.Core.Path.{_≡_, refl, sym, ap, subst, _∙_}
 use mathlib.Core.Bool.{Bool, true, false, cond}
 use mathlib.Core.List.{List}
+use mathlib.Core.Logic.{_⊎_, inl, inr}
 use Prim.Native.Nat.{ℕ, zero, suc, _+_, _-_, _*_, _/_, _%_, _≤_, _<_}
 use native.Mathlib.Omega.{arith}
-use borrow.Author.Tests.{eq-eqb, ne-eqb, eqb-true, eqb-false, le-ltb, ltb-true}
+use borrow.Author.Tests.{eq-eqb, ne-eqb, le-ltb, ltb-true}
 use lib.IntN.{ℤ, pos, negsuc, negℤ, subℕ, natAbs, _+ℤ_, _-ℤ_, +ℤ-idr, +ℤ-assoc, negℤ-+ℤ}
 use lib.Signed.{_≤ℤ_, leZ, leZ-yes}
-use lib.Dec.{T, eqb, leb, ltb, le→leb}
+use lib.Dec.{T, eqb, ltb, le→leb}
 use mir.Syntax.{w64}
 use mir.Val.{SFits}
 use Rattle.table.specs.Kind.{faces, pick, used}
 use Rattle.table.specs.Table.{dim, face}
+use Rattle.table.proofs.Cases.{same-or-not}
 use Rattle.audit.proofs.Places.{used-fits}
 use Rattle.reading.specs.Sums.{sumTo, sign}
 use Rattle.reading.specs.Incidence.{incidenceOf}
@@ -80,10 +82,9 @@ record Between (low high : ℕ) (z : ℤ) : Type 0 where
   down-to : down ≤ low
 
 -- a sum of signs over some of n places
-between-next : (b : Bool) (n : ℕ) (z : ℤ) → Between (n / 2) ((n + 1) / 2) z → (q : Bool) → eqb (n % 2) 0 ≡ q → Between ((n + 1) / 2) ((n + 2) / 2) (z +ℤ pick b (sign n) (pos 0))
-between-next false n z h q e = record { up = h .up; down = h .down; is = +ℤ-idr z ∙ h .is; up-to = omega (arith, h .up-to); down-to = omega (arith, h .down-to) }
-between-next true n z h true e =
-    let even : n % 2 ≡ 0 = eqb-true (n % 2) 0 e in
+between-next : (b : Bool) (n : ℕ) (z : ℤ) → Between (n / 2) ((n + 1) / 2) z → (n % 2 ≡ 0) ⊎ (n % 2 ≡ 0 → ⊥) → Between ((n + 1) / 2) ((n + 2) / 2) (z +ℤ pick b (sign n) (pos 0))
+between-next false n z h q = record { up = h .up; down = h .down; is = +ℤ-idr z ∙ h .is; up-to = omega (arith, h .up-to); down-to = omega (arith, h .down-to) }
+between-next true n z h (inl even) =
     record {
       up = h .up + 1;
       down = h .down;
@@ -91,8 +92,7 @@ between-next true n z h true e =
       up-to = omega (arith, h .up-to);
       down-to = omega (arith, h .down-to);
     }
-between-next true n z h false e =
-    let odd : (n % 2 ≡ 0 → ⊥) = eqb-false (n % 2) 0 e in
+between-next true n z h (inr odd) =
     record {
       up = h .up;
       down = h .down + 1;
@@ -104,7 +104,7 @@ between-next true n z h false e =
 between : (g : ℕ → Bool) (n : ℕ) → Between (n / 2) ((n + 1) / 2) (sumTo n (λ j. pick (g j) (sign j) (pos 0)))
 between g zero = record { up = 0; down = 0; is = sum-none (λ j. pick (g j) (sign j) (pos 0)); up-to = omega arith; down-to = omega arith }
 between g (suc n) =
-    let h = between-next (g n) n (sumTo n (λ j. pick (g j) (sign j) (pos 0))) (between g n) (eqb (n % 2) 0) refl in
+    let h = between-next (g n) n (sumTo n (λ j. pick (g j) (sign j) (pos 0))) (between g n) (same-or-not (n % 2) 0) in
     record {
       up = h .up;
       down = h .down;

@@ -20,7 +20,7 @@ by-steps : (P : ℤ → Type 0) → P (pos zero) → ((m : ℤ) → P m → P (s
 by-steps P z up down =
     ℤ-ind P z (λ n h. rw (+ℤ-one (pos n)) (up (pos n) h)) (λ n h. rw (-ℤ-one (negℤ (pos n))) (down (negℤ (pos n)) h))
 
-pub times-over : (a b c : ℤ) → (a +ℤ b) *ℤ c ≡ a *ℤ c +ℤ b *ℤ c
+times-over : (a b c : ℤ) → (a +ℤ b) *ℤ c ≡ a *ℤ c +ℤ b *ℤ c
 times-over a b c =
     by-steps (λ (m : ℤ). (m +ℤ b) *ℤ c ≡ m *ℤ c +ℤ b *ℤ c)
     (ap (λ (z : ℤ). z *ℤ c) (+ℤ-idl b) ∙ sym (ap (λ (z : ℤ). z +ℤ b *ℤ c) (zero-*ℤ c) ∙ +ℤ-idl (b *ℤ c)))
@@ -50,9 +50,6 @@ minus-times a b =
     ∙ ap (λ (z : ℤ). negℤ (m *ℤ b) +ℤ z) (sym (negℤ-negℤ b)) ∙ sym (negℤ-+ℤ (m *ℤ b) (negℤ b))
     ∙ ap negℤ (sym (predℤ-*ℤ m b)))
     a
-
-pub times-minus : (a b : ℤ) → a *ℤ negℤ b ≡ negℤ (a *ℤ b)
-times-minus a b = *ℤ-comm a (negℤ b) ∙ minus-times b a ∙ ap negℤ (*ℤ-comm b a)
 
 pub one-times : (a : ℤ) → pos 1 *ℤ a ≡ a
 one-times a = sucℤ-*ℤ (pos 0) a ∙ ap (λ (z : ℤ). z +ℤ a) (zero-*ℤ a) ∙ +ℤ-idl a

@@ -1,20 +1,19 @@
 -- What it says of a cell that it is a live p-cell, and of the faces of one.
 -- What carries it: the cases of the tests, and the lines of `Valid`. Assumes nothing.
 use mathlib.Core.Path.{_≡_, sym, _∙_}
-use mathlib.Core.Bool.{true, false}
+use mathlib.Core.Bool.{true}
 use mathlib.Core.List.{List}
 use Prim.Native.Nat.{ℕ, suc, _≤_, _<_}
 use native.Mathlib.Nat.{suc-inj}
 use native.Mathlib.Numerals.{add-one}
 use native.Mathlib.Omega.{arith}
-use borrow.Author.Tests.{eq-eqb, eqb-true, lt-ltb, le-ltb}
-use lib.Dec.{eqb, leb}
+use borrow.Author.Tests.{eq-eqb, eqb-true}
+use lib.Dec.{eqb}
 use Rattle.table.specs.Kind.{top, used}
-use Rattle.table.specs.Table.{cellsOf, dim, face, live, Live, Valid}
+use Rattle.table.specs.Table.{dim, face, live, Live, Valid, isCell}
 use Rattle.audit.proofs.Scans.{and-left, and-right, and-both}
 use Rattle.table.proofs.Records.{live-says, live-true}
 use Rattle.audit.proofs.Places.{used-is}
-use Rattle.reading.specs.Boundary.{isCell}
 
 -- a live p-cell, in words of the table
 pub record CellOf (t : List ℕ) (p c : ℕ) : Type 0 where
@@ -45,12 +44,3 @@ face-cell t v p c j h l =
       alive = v .face-live c j (h .alive) l;
       level = suc-inj (sym (v .face-dim c j (h .alive) l) ∙ h .level);
     }
-
--- the test of a cell, as the code takes it
-pub outside-dead : (t : List ℕ) (c : ℕ) → cellsOf t ≤ c → false ≡ live t c
-unfolding live
-outside-dead t c h = rw (le-ltb c (cellsOf t) h)
-
-pub inside-live : (t : List ℕ) (c : ℕ) → c < cellsOf t → leb (dim t c) top ≡ live t c
-unfolding live
-inside-live t c h = rw (lt-ltb c (cellsOf t) h)

@@ -10,16 +10,16 @@ use native.Mathlib.Omega.{arith}
 use lib.IntN.{ℤ, pos, negsuc, negℤ, natAbs, _+ℤ_, _*ℤ_, +ℤ-idr, zero-*ℤ, *ℤ-comm}
 use lib.Dec.{eqb}
 use Rattle.table.specs.Kind.{capacity, faces, pick, used}
-use Rattle.table.specs.Table.{cellsOf, dim, face, Valid}
+use Rattle.table.specs.Table.{cellsOf, dim, face, Valid, isCell}
 use Rattle.audit.proofs.Places.{used-fits}
 use Rattle.reading.specs.Sums.{sumTo, sign}
-use Rattle.reading.specs.Boundary.{isCell, boundaryOf, cellBoundary, publishedBoundary, one, limit}
+use Rattle.reading.specs.Boundary.{boundaryOf, cellBoundary, publishedBoundary, one, limit}
 use Rattle.reading.specs.Steps.{turned, placeAdds, reached}
 use Rattle.reading.proofs.Integers.{one-times, minus-one-times}
 use Rattle.reading.proofs.SumLaws.{sum-none, sum-next, sum-same, times-sum}
 use Rattle.reading.proofs.Sizes.{size-add, size-sum}
 use Rattle.reading.proofs.Living.{cell-true}
-use Rattle.reading.proofs.BoundaryLaws.{pick-times, sign-at, boundary-is-published}
+use Rattle.reading.proofs.BoundaryLaws.{pick-times, pick-zero, sign-at, boundary-is-published}
 use Rattle.reading.proofs.Adding.{size-places}
 
 turned-by : (b : Bool) (z : ℤ) → z *ℤ pick b (pos 1) (negsuc 0) ≡ pick b z (negℤ z)
@@ -39,15 +39,11 @@ place-is t c z u j =
     ∙ ap (λ (w : ℤ). pick (eqb (face t c j) u) w (pos 0)) (times-sign j z)
 
 -- a coefficient times the boundary of its cell, place by place
-pub cell-adds : (t : List ℕ) (c : ℕ) (z : ℤ) (u : ℕ) → z *ℤ cellBoundary t c u ≡ sumTo (used (dim t c)) (placeAdds t c z u)
+cell-adds : (t : List ℕ) (c : ℕ) (z : ℤ) (u : ℕ) → z *ℤ cellBoundary t c u ≡ sumTo (used (dim t c)) (placeAdds t c z u)
 unfolding cellBoundary
 cell-adds t c z u =
     times-sum (used (dim t c)) z (λ i. sign i *ℤ one (face t c i) u)
     ∙ sum-same (used (dim t c)) (λ i. z *ℤ (sign i *ℤ one (face t c i) u)) (placeAdds t c z u) (λ i l. place-is t c z u i)
-
-chosen-zero : (b : Bool) (z w : ℤ) → z ≡ pos 0 → pick b (z *ℤ w) (pos 0) ≡ pos 0
-chosen-zero true z w e = ap (λ (y : ℤ). y *ℤ w) e ∙ zero-*ℤ w
-chosen-zero false z w e = refl
 
 module _ (t : List ℕ) (p : ℕ) (x : ℕ → ℤ) where
   pub reached-none : (u : ℕ) → reached t p x 0 u ≡ pos 0
@@ -66,7 +62,7 @@ module _ (t : List ℕ) (p : ℕ) (x : ℕ → ℤ) where
   pub reached-past : (c u : ℕ) → x c ≡ pos 0 → reached t p x (c + 1) u ≡ reached t p x c u
   reached-past c u e =
       reached-next c u
-      ∙ ap (λ (w : ℤ). reached t p x c u +ℤ w) (chosen-zero (isCell t p c) (x c) (cellBoundary t c u) e)
+      ∙ ap (λ (w : ℤ). reached t p x c u +ℤ w) (pick-zero (isCell t p c) (x c *ℤ cellBoundary t c u) (λ q. ap (λ (z : ℤ). z *ℤ cellBoundary t c u) e ∙ zero-*ℤ (cellBoundary t c u)))
       ∙ +ℤ-idr (reached t p x c u)
 
   pub reached-cell : (c u : ℕ) → isCell t p c ≡ true → reached t p x (c + 1) u ≡ reached t p x c u +ℤ sumTo (used p) (placeAdds t c (x c) u)
@@ -78,7 +74,7 @@ module _ (t : List ℕ) (p : ℕ) (x : ℕ → ℤ) where
 
   -- how large a sum can be: for each cell seven coefficients
   module _ (small : (c : ℕ) → c < cellsOf t → natAbs (x c) ≤ limit) where
-    pub size-of-places : (c u m : ℕ) → c < cellsOf t → m ≤ faces → natAbs (sumTo m (placeAdds t c (x c) u)) ≤ faces * limit
+    size-of-places : (c u m : ℕ) → c < cellsOf t → m ≤ faces → natAbs (sumTo m (placeAdds t c (x c) u)) ≤ faces * limit
     size-of-places c u m l h =
         let few : m * natAbs (x c) ≤ faces * limit = mul-le-mul {n₁ = m} {m₁ = natAbs (x c)} {n₂ = faces} {m₂ = limit} h (small c l) in
         omega (arith, size-places t c (x c) u m)

@@ -24,11 +24,11 @@ back z = toZ w64 (ofZ w64 z)
 pub back-is : (z : ℤ) → SFits w64 z → back z ≡ z
 back-is z f = toZ-ofZ f
 
-pub turned-even : (j : ℕ) (z : ℤ) → j % 2 ≡ 0 → turned j z ≡ z
+turned-even : (j : ℕ) (z : ℤ) → j % 2 ≡ 0 → turned j z ≡ z
 unfolding turned
 turned-even j z e = rw (eq-eqb (j % 2) 0 e)
 
-pub turned-odd : (j : ℕ) (z : ℤ) → (j % 2 ≡ 0 → ⊥) → turned j z ≡ negℤ z
+turned-odd : (j : ℕ) (z : ℤ) → (j % 2 ≡ 0 → ⊥) → turned j z ≡ negℤ z
 unfolding turned
 turned-odd j z h = rw (ne-eqb (j % 2) 0 h)
 

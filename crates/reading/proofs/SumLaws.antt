@@ -2,7 +2,6 @@
 -- summand alone is not 0.
 -- What carries them: recursion on the number of summands. Assumes nothing.
 use mathlib.Core.Path.{_≡_, refl, sym, ap, _∙_}
-use mathlib.Core.Bool.{Bool, true, false}
 use mathlib.Core.Logic.{⊎-elim}
 use Prim.Native.Nat.{ℕ, zero, suc, _+_, _<_}
 use native.Mathlib.Nat.{not-suc-le-zero, le-of-suc-le-suc, eq-or-lt-of-le}
@@ -68,11 +67,6 @@ sum-exchange zero m f = sym (sum-zero m (λ j. pos 0) (λ j l. refl))
 sum-exchange (suc n) m f =
     ap (λ (z : ℤ). z +ℤ sumTo m (f n)) (sum-exchange n m f)
     ∙ sym (sum-of-sums m (λ j. sumTo n (λ i. f i j)) (f n))
-
--- a summand that is chosen by a test, in a sum that the same test chooses
-pub pick-sum : (b : Bool) (n : ℕ) (f : ℕ → ℤ) → pick b (sumTo n f) (pos 0) ≡ sumTo n (λ i. pick b (f i) (pos 0))
-pick-sum true n f = refl
-pick-sum false n f = sym (sum-zero n (λ i. pos 0) (λ i l. refl))
 
 -- only the summand at s counts
 pub sum-at : (n s : ℕ) (g : ℕ → ℤ) → s < n → sumTo n (λ k. pick (eqb s k) (g k) (pos 0)) ≡ g s

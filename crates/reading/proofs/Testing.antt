@@ -12,9 +12,9 @@ use lib.Dec.{eqb, leb}
 use mir.Syntax.{w64}
 use mir.Val.{SFits}
 use Rattle.table.specs.Kind.{top}
-use Rattle.table.specs.Table.{cellsOf, dim}
+use Rattle.table.specs.Table.{cellsOf, dim, isCell}
 use Rattle.table.specs.Audit.{all}
-use Rattle.reading.specs.Boundary.{isCell, limit, coefficient}
+use Rattle.reading.specs.Boundary.{limit, coefficient}
 use Rattle.reading.specs.Steps.{allSmall, allPlaced}
 use Rattle.audit.proofs.Records.{not-true-false}
 use Rattle.reading.proofs.Lists.{all-fails}

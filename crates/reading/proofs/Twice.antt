@@ -4,19 +4,21 @@
 use mathlib.Core.Path.{_≡_, sym, ap, subst, _∙_, fun-ext}
 use mathlib.Core.Bool.{Bool, true, false}
 use mathlib.Core.List.{List}
+use mathlib.Core.Logic.{⊎-elim}
 use Prim.Native.Nat.{ℕ, zero, suc, _≤_, _<_}
 use native.Mathlib.Omega.{arith}
 use lib.IntN.{ℤ, pos, _*ℤ_, *ℤ-zero, zero-*ℤ}
 use lib.Dec.{eqb}
 use Rattle.table.specs.Kind.{top, pick, used}
-use Rattle.table.specs.Table.{cellsOf, dim, face, Valid}
+use Rattle.table.specs.Table.{cellsOf, dim, face, Valid, isCell}
+use Rattle.table.proofs.Cases.{true-or-false}
 use Rattle.reading.specs.Sums.{sumTo, sign}
-use Rattle.reading.specs.Boundary.{isCell, boundaryOf, one, cellBoundary, publishedBoundary}
+use Rattle.reading.specs.Boundary.{boundaryOf, one, cellBoundary, publishedBoundary}
 use Rattle.reading.proofs.Integers.{one-times, times-regroup}
 use Rattle.reading.proofs.SumLaws.{sum-none, sum-same, sum-zero, times-sum, sum-times, sum-exchange, sum-at}
 use Rattle.reading.proofs.Cancelling.{signs-cancel}
 use Rattle.reading.proofs.Living.{CellOf, cell-true, cell-says, places, face-cell}
-use Rattle.reading.proofs.BoundaryLaws.{by-test, pick-times, boundary-is-published}
+use Rattle.reading.proofs.BoundaryLaws.{pick-times, boundary-is-published}
 
 -- what cell c adds at u as a p-cell: its boundary there, and 0 where it is none
 unfoldable adds : List ℕ → ℕ → ℕ → ℕ → ℤ
@@ -100,11 +102,12 @@ module _ (t : List ℕ) (v : Valid t) where
 
   one-cell : (p c u : ℕ) → sumTo (cellsOf t) (λ s. adds t (suc p) c s *ℤ adds t p s u) ≡ pos 0
   one-cell p c u =
-      by-test (isCell t (suc p) c)
+      ⊎-elim
       (λ e. let h = cell-true t (suc p) c e in faces-of-faces p c u h ∙ square-is-zero p c u h)
       (λ e.
       sum-zero (cellsOf t) (λ s. adds t (suc p) c s *ℤ adds t p s u)
       (λ s l. ap (λ (z : ℤ). z *ℤ adds t p s u) (adds-none t (suc p) c s e) ∙ zero-*ℤ (adds t p s u)))
+      (true-or-false (isCell t (suc p) c))
 
   published-twice : (p : ℕ) (x : ℕ → ℤ) (u : ℕ) → publishedBoundary t p (publishedBoundary t (suc p) x) u ≡ pos 0
   published-twice p x u =

@@ -4,20 +4,19 @@
 use mathlib.Core.Path.{_≡_, sym, ap, _∙_, fun-ext}
 use mathlib.Core.Bool.{false}
 use mathlib.Core.List.{List}
+use mathlib.Core.Logic.{⊎-elim}
 use Prim.Native.Nat.{ℕ, suc, _≤_}
 use native.Mathlib.Omega.{arith}
-use borrow.Author.Tests.{ltb-true, ltb-false}
 use lib.ListN.{length, getD, List·getD-eq-default}
 use lib.IntN.{ℤ, pos}
-use lib.Dec.{ltb}
-use Rattle.table.specs.Table.{cellsOf}
+use Rattle.table.specs.Table.{cellsOf, isCell}
 use Rattle.table.specs.Calls.{Ends}
 use Rattle.table.specs.declared.Verdict.the-variants.{Accepted}
+use Rattle.table.proofs.Cases.{below-or-not}
+use Rattle.table.proofs.Records.{outside-dead}
 use Rattle.reading.specs.Sums.{integers}
-use Rattle.reading.specs.Boundary.{isCell, boundaryOf, boundaryVerdict, boundaryLeaves, coefficient}
+use Rattle.reading.specs.Boundary.{boundaryOf, boundaryVerdict, boundaryLeaves, coefficient}
 use Rattle.reading.proofs.Lists.{integers-length, integers-at, is-integers}
-use Rattle.reading.proofs.Living.{outside-dead}
-use Rattle.reading.proofs.BoundaryLaws.{by-test}
 use Rattle.reading.proofs.Twice.{boundary-of-boundary}
 use Rattle.reading.proofs.Judging.{accepted-says, leaves-new}
 
@@ -32,11 +31,12 @@ outside-zero t p x u h = rw (outside-no-cell t p u h)
 -- what the call leaves, read as a chain
 left-chain : (t : List ℕ) (p : ℕ) (x : ℕ → ℤ) (y : List ℤ) → y ≡ integers (cellsOf t) (boundaryOf t (suc p) x) → (u : ℕ) → coefficient y u ≡ boundaryOf t (suc p) x u
 left-chain t p x y e u =
-    by-test (ltb u (cellsOf t))
-    (λ q. ap (λ (w : List ℤ). getD w u (pos 0)) e ∙ integers-at (cellsOf t) (boundaryOf t (suc p) x) u (ltb-true u (cellsOf t) q))
-    (λ q.
-    let k : length y ≤ u = omega (arith, ap length e, integers-length (cellsOf t) (boundaryOf t (suc p) x), ltb-false u (cellsOf t) q) in
-    List·getD-eq-default y (pos 0) k ∙ sym (outside-zero t p x u (ltb-false u (cellsOf t) q)))
+    ⊎-elim
+    (λ l. ap (λ (w : List ℤ). getD w u (pos 0)) e ∙ integers-at (cellsOf t) (boundaryOf t (suc p) x) u l)
+    (λ h.
+    let k : length y ≤ u = omega (arith, ap length e, integers-length (cellsOf t) (boundaryOf t (suc p) x)) in
+    List·getD-eq-default y (pos 0) k ∙ sym (outside-zero t p x u h))
+    (below-or-not u (cellsOf t))
 
 -- Accepted with p + 1, then accepted on the result with p: all 0.
 pub two-calls-give-zeros : (t : List ℕ) (p : ℕ) (x y₀ y z₀ z : List ℤ) → Ends (boundaryVerdict t x (suc p) y₀) (boundaryLeaves t x (suc p) y₀) Accepted y → Ends (boundaryVerdict t y p z₀) (boundaryLeaves t y p z₀) Accepted z → z ≡ integers (cellsOf t) (λ u. pos 0)

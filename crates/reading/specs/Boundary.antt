@@ -1,24 +1,20 @@
 -- The boundary of a chain with integer coefficients: at each (p−1)-cell the sum of coefficient times incidence, and 0 elsewhere.
 -- Beside it the published form, in which the boundary of a cell is the sum of (−1)^i times its face i, extended linearly.
 -- A reader must believe these definitions; nothing here is proved.
-use mathlib.Core.Bool.{Bool, true, false, _&&_, _||_, not}
+use mathlib.Core.Bool.{_&&_, _||_, not}
 use mathlib.Core.List.{List, [], _∷_}
 use Prim.Native.Nat.{ℕ, zero, suc, _^_}
 use lib.ListN.{length, getD}
 use lib.IntN.{ℤ, pos, _*ℤ_, natAbs}
 use lib.Dec.{eqb, leb, ltb}
 use Rattle.table.specs.Kind.{top, pick, used}
-use Rattle.table.specs.Table.{cellsOf, dim, face, live}
+use Rattle.table.specs.Table.{cellsOf, dim, face, isCell}
 use Rattle.table.specs.Audit.{all, sized, onValidity}
 use Rattle.table.specs.Calls.{Ground, verdict, onVerdict}
 use Rattle.table.specs.declared.Refusal.the-variants.{Length, NoSuchPlace, TooLarge, Misplaced}
 use Rattle.table.specs.declared.Verdict.{Verdict}
 use Rattle.reading.specs.Sums.{sumTo, sign, integers}
 use Rattle.reading.specs.Incidence.{incidenceOf}
-
--- whether c is a live p-cell
-unfoldable pub isCell : List ℕ → ℕ → ℕ → Bool
-isCell t p c = live t c && eqb (dim t c) p
 
 -- the boundary of the p-chain x; a chain gives each cell number its coefficient, and what stands at other numbers does not count
 unfoldable pub boundaryOf : List ℕ → ℕ → (ℕ → ℤ) → ℕ → ℤ

@@ -2,22 +2,22 @@
 -- A reader need not believe this file: the calls' contracts speak of Incidence.antt and Boundary.antt alone.
 use mathlib.Core.Path.{_≡_}
 use mathlib.Core.Bool.{Bool, true, _&&_, _||_, not}
-use mathlib.Core.List.{List}
+use mathlib.Core.List.{List, [], _∷_}
 use Prim.Native.Nat.{ℕ, suc, _^_, _%_, _≤_, _<_}
 use lib.ListN.{length, getD, set}
 use lib.IntN.{ℤ, pos, negℤ, _+ℤ_, _*ℤ_, natAbs}
 use lib.Dec.{eqb, leb, ltb}
 use Rattle.table.specs.Kind.{top, faces, pick}
-use Rattle.table.specs.Table.{cellsOf, dim, face, live, Valid}
+use Rattle.table.specs.Table.{cellsOf, dim, face, live, Valid, isCell}
 use Rattle.table.specs.Audit.{all, sized}
+use Rattle.table.specs.Calls.{Ground, verdict, onVerdict}
 use Rattle.table.specs.declared.Refusal.the-variants.{NotLive, DimensionsDiffer, NoSuchPlace, TooLarge, Misplaced}
 use Rattle.table.specs.declared.Verdict.{Verdict}
-use Rattle.table.specs.declared.Verdict.the-variants.{Accepted, Refused}
 use Rattle.reading.specs.declared.Sum.{Sum}
 use Rattle.reading.specs.declared.Sum.the-variants.{Is, NoSum}
 use Rattle.reading.specs.Sums.{sumTo, integers}
 use Rattle.reading.specs.Incidence.{incidenceOf}
-use Rattle.reading.specs.Boundary.{isCell, cellBoundary, limit, coefficient}
+use Rattle.reading.specs.Boundary.{cellBoundary, limit, coefficient}
 
 -- z with the sign of place j
 unfoldable pub turned : ℕ → ℤ → ℤ
@@ -69,16 +69,22 @@ pub record Addable (t : List ℕ) (x : List ℤ) (p : ℕ) (y : List ℤ) : Type
   pub cleared : y ≡ integers (cellsOf t) (λ u. pos 0)
 
 -- what the chain and its dimension decide, once the lengths fit and the table is valid
+abbrev pub chainGrounds : List ℕ → List ℤ → ℕ → List Ground
+chainGrounds t x p =
+    record { refusal = NoSuchPlace; applies = ltb top p }
+    ∷ record { refusal = TooLarge; applies = not (allSmall x) }
+    ∷ record { refusal = Misplaced; applies = not (allPlaced t x p) }
+    ∷ []
+
 unfoldable pub chainVerdict : List ℕ → List ℤ → ℕ → Verdict
-chainVerdict t x p =
-    pick (ltb top p) (Refused NoSuchPlace)
-    (pick (not (allSmall x)) (Refused TooLarge)
-    (pick (not (allPlaced t x p)) (Refused Misplaced)
-    Accepted))
+chainVerdict t x p = verdict (chainGrounds t x p)
 
 -- what the two cells decide, once the table is valid
+abbrev pub cellGrounds : List ℕ → ℕ → ℕ → List Ground
+cellGrounds t s u =
+    record { refusal = NotLive; applies = not (live t s && live t u) }
+    ∷ record { refusal = DimensionsDiffer; applies = not (eqb (dim t s) (suc (dim t u))) }
+    ∷ []
+
 unfoldable pub cellsAnswer : List ℕ → ℕ → ℕ → Sum
-cellsAnswer t s u =
-    pick (not (live t s && live t u)) (NoSum NotLive)
-    (pick (not (eqb (dim t s) (suc (dim t u)))) (NoSum DimensionsDiffer)
-    (Is (incidenceOf t s u)))
+cellsAnswer t s u = onVerdict (verdict (cellGrounds t s u)) (Is (incidenceOf t s u)) NoSum

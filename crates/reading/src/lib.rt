@@ -7,7 +7,7 @@ ghost use lib.Dec.{leb};
 ghost use mir.Syntax.{w64};
 ghost use mir.Val.{SFits};
 ghost use Rattle.table.specs.Kind.{top};
-ghost use Rattle.table.specs.Table.{cellsOf, live};
+ghost use Rattle.table.specs.Table.{cellsOf};
 ghost use Rattle.table.specs.Calls.{Ends};
 ghost use Rattle.reading.specs.Sums.{integers};
 ghost use Rattle.reading.specs.Incidence.{incidenceOf, incidenceAnswer};
@@ -61,7 +61,7 @@ fn coefficients_placed(t: &[u16], chain: &[i64], p: u16) -> bool
     for c in 0..chain.len() {
         let x = chain[c];
         if x != 0 {
-            if t[c * Table::WORDS] != p {
+            if Table::dim(t, c) != p {
                 return false;
             }
         }
@@ -113,9 +113,8 @@ fn add_cell(t: &[u16], c: usize, used: usize, x: i64, result: &mut [i64])
     requires { ⌜ Adding (now t) c used x (now result) ⌝ }
     ensures { λ _. ⌜ now (result .exit) ≡ integers (length (now (result .entry))) (added (now (t .entry)) c x (now (result .entry)) used) ⌝ }
 {
-    let at = c * Table::WORDS;
     for j in 0..used {
-        put(result, t[at + (1 + j)] as usize, j, x);
+        put(result, Table::face(t, c, j) as usize, j, x);
     }
 }
 
@@ -181,18 +180,6 @@ pub fn boundary(t: &[u16], chain: &[i64], p: u16, result: &mut [i64]) -> Verdict
     }
 }
 
-// Whether c is a live cell.
-fn is_live(t: &[u16], c: u16) -> bool
-    ensures { λ r. ⌜ r ≡ live (now (t .entry)) c ⌝ }
-{
-    let n = t.len() / Table::WORDS;
-    let at = c as usize;
-    if at >= n {
-        return false;
-    }
-    t[at * Table::WORDS] <= Table::TOP
-}
-
 // The sum of (−1)^j over the places j at which face j of s is u.
 fn places_sum(t: &[u16], s: usize, u: u16) -> i64
     requires { ⌜ s < cellsOf (now t) ⌝ }
@@ -217,10 +204,10 @@ fn places_sum(t: &[u16], s: usize, u: u16) -> i64
 fn of_cells(t: &[u16], s: u16, u: u16) -> Sum
     ensures { λ r. ⌜ r ≡ cellsAnswer (now (t .entry)) s u ⌝ }
 {
-    if !is_live(t, s) {
+    if !Table::live(t, s as usize) {
         return Sum::NoSum(Refusal::NotLive);
     }
-    if !is_live(t, u) {
+    if !Table::live(t, u as usize) {
         return Sum::NoSum(Refusal::NotLive);
     }
     let p = Table::dim(t, s as usize);

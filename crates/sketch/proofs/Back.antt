@@ -7,10 +7,10 @@ use Prim.Native.Nat.{ℕ, _<_}
 use native.Mathlib.Omega.{arith}
 use lib.ListN.{getD}
 use Rattle.table.specs.Kind.{used}
-use Rattle.table.specs.Table.{cellsOf, dim, face}
+use Rattle.table.specs.Table.{cellsOf, dim, face, isCell}
 use Rattle.counting.specs.Counting.{howMany, nth}
 use Rattle.sketch.specs.Form.{dimensions}
-use Rattle.sketch.specs.Written.{isCell, countOf, fileOf}
+use Rattle.sketch.specs.Written.{countOf, fileOf}
 use Rattle.sketch.specs.Read.{countIn, numberIn, faceIn, described}
 use Rattle.sketch.proofs.Parts.{layout-cong}
 use Rattle.sketch.proofs.Laid.{laid-layout}

@@ -9,10 +9,10 @@ use native.Mathlib.Omega.{arith}
 use lib.ListN.{length, getD, List·getD-append}
 use lib.Seq.{getD-append-add}
 use Rattle.table.specs.Kind.{pick, used}
-use Rattle.table.specs.Table.{cellsOf, dim, face}
+use Rattle.table.specs.Table.{cellsOf, dim, face, isCell}
 use Rattle.table.proofs.Cases.{below-or-not}
 use Rattle.sketch.specs.Form.{two, four, pieces, dimensions, bodyStart}
-use Rattle.sketch.specs.Written.{isCell, countOf, cellBytes, bodyOf, contentsOf, fileOf}
+use Rattle.sketch.specs.Written.{countOf, cellBytes, bodyOf, contentsOf, fileOf}
 use Rattle.sketch.proofs.Bytes.{two-small, four-small}
 use Rattle.sketch.proofs.Pieces.{pieces-zero, pieces-suc}
 

@@ -9,13 +9,13 @@ use native.Mathlib.Nat.{mul-le-mul-left}
 use native.Mathlib.Omega.{arith}
 use lib.ListN.{length}
 use Rattle.table.specs.Kind.{capacity, top, pick}
-use Rattle.table.specs.Table.{cellsOf, dim, face, Sized}
+use Rattle.table.specs.Table.{cellsOf, dim, face, Sized, isCell}
 use Rattle.counting.specs.Counting.{howMany}
 use Rattle.table.proofs.Cases.{true-or-false}
 use Rattle.counting.proofs.Counting.{howMany-zero, howMany-yes, howMany-no}
 use Rattle.audit.proofs.Places.{used-fits}
 use Rattle.sketch.specs.Form.{total, dimensions, contentsSize, recordSize, bodyStart}
-use Rattle.sketch.specs.Written.{isCell, countOf, cellBytes, bodyOf, contentsOf, fileOf}
+use Rattle.sketch.specs.Written.{countOf, cellBytes, bodyOf, contentsOf, fileOf}
 use Rattle.sketch.proofs.Pieces.{total-zero, total-suc, total-more, total-grows, total-less, total-scaled}
 use Rattle.sketch.proofs.Parts.{length-recordBytes, length-bodyBytes, length-contentsBytes, length-layout}
 use Rattle.sketch.proofs.Cells.{cellAt, faceAt, cell-dim, record-is, body-is, file-is}

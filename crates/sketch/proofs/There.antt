@@ -7,14 +7,14 @@ use mathlib.Core.Logic.{_⊎_, inl, inr, ⊎-elim}
 use Prim.Native.Nat.{ℕ, suc, _≤_, _<_}
 use native.Mathlib.Omega.{arith}
 use Rattle.table.specs.Kind.{capacity, top, faces, freeMark, used}
-use Rattle.table.specs.Table.{cellsOf, dim, face, Valid}
+use Rattle.table.specs.Table.{cellsOf, dim, face, Valid, isCell}
 use Rattle.table.proofs.Words.{table-by-records}
 use Rattle.counting.specs.Counting.{howMany}
 use Rattle.table.proofs.Cases.{below-or-not, true-or-false}
 use Rattle.counting.proofs.Counting.{howMany-most, howMany-strict, nth-below, nth-rising, rank-nth}
 use Rattle.audit.proofs.Places.{used-says}
 use Rattle.sketch.specs.Form.{dimensions}
-use Rattle.sketch.specs.Written.{isCell, countOf, fileOf}
+use Rattle.sketch.specs.Written.{countOf, fileOf}
 use Rattle.sketch.specs.Read.{countIn, numberIn, faceIn, inBody, dimIn, described}
 use Rattle.sketch.proofs.Parts.{Laid}
 use Rattle.sketch.proofs.Laid.{layout-laid}

@@ -1,22 +1,17 @@
 -- The file that a table is written as, and what the writer answers and leaves.
 -- A reader must believe these definitions; nothing here is proved.
-use mathlib.Core.Bool.{Bool, _&&_}
 use mathlib.Core.List.{List, [], _∷_, _++_}
 use Prim.Native.Nat.{ℕ, _+_}
 use lib.ListN.{length, drop}
-use lib.Dec.{eqb, ltb}
+use lib.Dec.{ltb}
 use Rattle.counting.specs.Counting.{howMany}
 use Rattle.table.specs.Kind.{pick, used}
-use Rattle.table.specs.Table.{cellsOf, dim, face, live}
+use Rattle.table.specs.Table.{cellsOf, dim, face, isCell}
 use Rattle.table.specs.Audit.{onLength, onValidity}
 use Rattle.table.specs.Calls.{Ground, verdict}
 use Rattle.table.specs.declared.Refusal.the-variants.{NoRoom}
 use Rattle.table.specs.declared.Verdict.{Verdict}
 use Rattle.sketch.specs.Form.{two, four, pieces, dimensions, bodyStart}
-
--- whether c is a live p-cell
-unfoldable pub isCell : List ℕ → ℕ → ℕ → Bool
-isCell t p c = live t c && eqb (dim t c) p
 
 -- the number of live p-cells
 unfoldable pub countOf : List ℕ → ℕ → ℕ

@@ -45,6 +45,10 @@ pub record Live (t : List ℕ) (c : ℕ) : Type 0 where
 unfoldable pub live : List ℕ → ℕ → Bool
 live t c = ltb c (cellsOf t) && leb (dim t c) top
 
+-- whether c is a live p-cell
+unfoldable pub isCell : List ℕ → ℕ → ℕ → Bool
+isCell t p c = live t c && eqb (dim t c) p
+
 -- A table is valid when
 pub record Valid (t : List ℕ) : Type 0 where
   -- its words are 8·N,

@@ -8,9 +8,9 @@ use native.Mathlib.Omega.{arith}
 use borrow.Author.Tests.{ne-eqb}
 use lib.ListN.{length, length-append}
 use Rattle.table.specs.Kind.{top, pick, used}
-use Rattle.table.specs.Table.{cellsOf, dim, face, live}
+use Rattle.table.specs.Table.{cellsOf, dim, face, live, isCell}
 use Rattle.sketch.specs.Form.{two, four, pieces, dimensions, bodyStart}
-use Rattle.sketch.specs.Written.{isCell, countOf, cellBytes, bodyOf, contentsOf, fileOf}
+use Rattle.sketch.specs.Written.{countOf, cellBytes, bodyOf, contentsOf, fileOf}
 use Rattle.sketch.proofs.Bytes.{length-two, length-four}
 use Rattle.sketch.proofs.Cells.{cell-says}
 use Rattle.writer.specs.Put.{Put, entry}

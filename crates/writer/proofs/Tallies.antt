@@ -10,12 +10,12 @@ use borrow.Author.Tests.{eqb-true, eqb-false}
 use lib.ListN.{length, getD, set, replicate, length-replicate, getD-replicate, length-set}
 use lib.Seq.{getD-set-same, getD-set-other}
 use lib.Dec.{eqb}
-use Rattle.table.specs.Table.{cellsOf, dim}
+use Rattle.table.specs.Table.{cellsOf, dim, isCell}
 use Rattle.counting.specs.Counting.{howMany}
 use Rattle.table.proofs.Cases.{true-or-false}
 use Rattle.counting.proofs.Counting.{howMany-zero, howMany-yes-more, howMany-no-more, howMany-most}
 use Rattle.sketch.specs.Form.{dimensions}
-use Rattle.sketch.specs.Written.{isCell, countOf}
+use Rattle.sketch.specs.Written.{countOf}
 use Rattle.writer.specs.Put.{Counted}
 use Rattle.writer.proofs.Parts.{is-cell, is-other}
 

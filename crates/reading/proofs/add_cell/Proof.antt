@@ -1,15 +1,13 @@
 -- `reading::add_cell` meets its contract. The invariant: every number has what the places passed add to it, and the length is kept.
 -- The measure: what is left of the places. Assumes nothing.
 use mathlib.Core.Path.{_≡_, refl}
-use Prim.Native.Nat.{ℕ, _+_, _-_, _*_, _≤_, _<_}
+use Prim.Native.Nat.{ℕ, _-_, _≤_, _<_}
 use native.Mathlib.Omega.{arith}
 use borrow.Author.Needs.{needs}
 use lib.ListN.{length, getD}
 use lib.IntN.{pos}
 use mir.Syntax.{w64}
 use mir.Val.{toZ}
-use Rattle.table.specs.Kind.{width}
-use Rattle.table.specs.Table.{face}
 use Rattle.reading.specs.Steps.{added}
 use Rattle.reading.proofs.Registers.{back}
 use Rattle.reading.proofs.Adding.{added-none, place-allowed, place-done, adding-back, all-added}
@@ -17,46 +15,31 @@ use Rattle.reading.proofs.add_cell.Statement.{statement}
 use Rattle.reading.proofs.add_cell.Tie as tie
 
 abbrev Inv-loop : tie.InvT-loop
-Inv-loop t c used x result₀ at j₀ result j =
+Inv-loop t c used x result₀ j₀ result j =
     (j ≤ used) × (length result ≡ length result₀) × ((u : ℕ) → u < length result → getD result u (pos 0) ≡ added t c (toZ w64 x) result₀ j u)
 
 abbrev μ-loop : tie.MeasureT-loop
-μ-loop t c used x result₀ at j₀ result j = used - j
-
-mul-at : tie.Need-mul-at Inv-loop μ-loop
-mul-at c = search needs
+μ-loop t c used x result₀ j₀ result j = used - j
 
 loop-holds : tie.Need-loop-holds Inv-loop μ-loop
 loop-holds c =
     let a = c .before .args in
     (search needs, refl, λ u h. added-none (a .t .now) (a .c) (back (a .x)) (a .result .now) u)
 
-add-put : tie.Need-add-put Inv-loop μ-loop
-add-put c = search needs
-
-add-put-2 : tie.Need-add-put-2 Inv-loop μ-loop
-add-put-2 c = search needs
-
-mul-put : tie.Need-mul-put Inv-loop μ-loop
-mul-put c = search needs
-
-shared-slice-read-put : tie.Need-shared-slice-read-put Inv-loop μ-loop
-shared-slice-read-put c = search needs
+face-requires : tie.Need-face-requires Inv-loop μ-loop
+face-requires c κs = (c .before .before .before .before .pre .inside, omega (arith, c .before .before .before .before .pre .places))
 
 cast-put : tie.Need-cast-put Inv-loop μ-loop
-cast-put c =
-    let l = c .before .before .before in
-    let s = l .before .before in
-    let a = s .args in
-    omega (arith, c .shared-slice-known2 .given (a .c * width + (1 + l .loop .j)))
+cast-put c = search needs
 
 put-requires : tie.Need-put-requires Inv-loop μ-loop
 put-requires c κs =
-    let l = c .before .before .before in
+    let i = c .before .before in
+    let l = i .before in
     let s = l .before .before in
     let a = s .args in
     place-allowed (a .t .now) (a .c) (back (a .x)) (a .result .now) (adding-back (s .fits .x) (s .pre)) (l .loop .result) (l .loop .j)
-    (face (a .t .now) (a .c) (l .loop .j)) (c .before .before .loop-test .taken) refl (l .loop .inv .1) (l .loop .inv .2)
+    (c .face .result) (i .loop-test .taken) (c .face .ensures) (l .loop .inv .1) (l .loop .inv .2)
 
 add-j : tie.Need-add-j Inv-loop μ-loop
 add-j c = search needs
@@ -71,7 +54,7 @@ loop-again c =
     let s = l .before .before in
     let a = s .args in
     let done = place-done (a .t .now) (a .c) (back (a .x)) (a .result .now) (adding-back (s .fits .x) (s .pre)) (l .loop .result) (l .loop .j)
-    (face (a .t .now) (a .c) (l .loop .j)) (i .loop-test .taken) refl (l .loop .inv .1) (l .loop .inv .2) (c .before .put .last .0) (c .before .put .ensures) in
+    (c .before .before .face .result) (i .loop-test .taken) (c .before .before .face .ensures) (l .loop .inv .1) (l .loop .inv .2) (c .before .put .last .0) (c .before .put .ensures) in
     (omega arith, done .0, done .1)
 
 same-length : tie.Need-same-length Inv-loop μ-loop
@@ -90,12 +73,8 @@ add-cell-spec =
     (tie.spec
     Inv-loop
     μ-loop
-    mul-at
     loop-holds
-    add-put
-    add-put-2
-    mul-put
-    shared-slice-read-put
+    face-requires
     cast-put
     put-requires
     add-j

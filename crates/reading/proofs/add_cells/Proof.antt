@@ -25,10 +25,7 @@ used-requires : tie.Need-used-requires Inv-loop μ-loop
 used-requires c κs = search needs
 
 loop-holds : tie.Need-loop-holds Inv-loop μ-loop
-loop-holds c =
-    let s = c .before .before in
-    let a = s .args in
-    (search needs, refl, none-reached (a .t .now) (a .chain .now) (a .p) (a .result .now) (s .pre))
+loop-holds c = (search needs, refl, none-reached _ _ _ _ (c .before .before .pre))
 
 mul-x : tie.Need-mul-x Inv-loop μ-loop
 mul-x c = search needs
@@ -39,9 +36,8 @@ shared-slice-copy-out-x c = search needs
 add-cell-requires : tie.Need-add-cell-requires Inv-loop μ-loop
 add-cell-requires c κs =
     let l = c .before .before .before .before in
-    let s = l .before .before .before in
-    let a = s .args in
-    cell-fits-back (a .t .now) (a .chain .now) (a .p) (a .result .now) (s .pre) (l .loop .result) (l .loop .c) (l .loop .inv .2) (l .before .used .result) (l .before .used .ensures .0) (record { sfits = c .before .before .x .given }) (c .before .before .before .loop-test .taken) (c .before .if1 .taken)
+    let u = l .before in
+    cell-fits-back _ _ _ _ (u .before .before .pre) _ _ (l .loop .inv .2) _ (u .used .ensures .0) (record { sfits = c .before .before .x .given }) (c .before .before .before .loop-test .taken) (c .before .if1 .taken)
 
 add-c : tie.Need-add-c Inv-loop μ-loop
 add-c c = search needs
@@ -52,27 +48,22 @@ loop-less c = search needs
 loop-again : tie.Need-loop-again Inv-loop μ-loop
 loop-again c =
     let l = c .before .before .before in
-    let s = l .before .before .before in
-    let a = s .args in (
+    let u = l .before in (
       omega arith,
       refl,
       ⊎-elim
-          (λ w. cell-added-back (a .t .now) (a .chain .now) (a .p) (a .result .now) (s .pre) (l .loop .result) (l .loop .c) (l .loop .inv .2) (l .before .used .result) (l .before .used .ensures .0) (record { sfits = c .before .x .given }) (c .before .before .loop-test .taken) (w .0 .taken) (c .if1 .result) (w .4 ∙ w .2 .ensures))
-          (λ w. w .1 ∙ cell-passed (a .t .now) (a .chain .now) (a .p) (a .result .now) (s .pre) (l .loop .result) (l .loop .c) (l .loop .inv .2) (zero-back (coefficient (a .chain .now) (l .loop .c)) (record { sfits = c .before .x .given }) (w .0 .left)))
+          (λ w. cell-added-back _ _ _ _ (u .before .before .pre) _ _ (l .loop .inv .2) _ (u .used .ensures .0) (record { sfits = c .before .x .given }) (c .before .before .loop-test .taken) (w .0 .taken) _ (w .4 ∙ w .2 .ensures))
+          (λ w. w .1 ∙ cell-passed _ _ _ _ (u .before .before .pre) _ _ (l .loop .inv .2) (zero-back _ (record { sfits = c .before .x .given }) (w .0 .left)))
           (c .if1 .came),
     )
 
 same-length : tie.Need-same-length Inv-loop μ-loop
 same-length c =
-    let s = c .before .before .before .before in
-    let a = s .args in
-    reached-long (a .t .now) (a .chain .now) (a .p) (a .result .now) (s .pre) (c .before .loop .result) (c .before .loop .c) (c .before .loop .inv .2) ∙ sym (reached-long (a .t .now) (a .chain .now) (a .p) (a .result .now) (s .pre) (a .result .now) 0 (none-reached (a .t .now) (a .chain .now) (a .p) (a .result .now) (s .pre)))
+    let h = c .before .before .before .before .pre in
+    reached-long _ _ _ _ h _ _ (c .before .loop .inv .2) ∙ sym (reached-long _ _ _ _ h _ _ (none-reached _ _ _ _ h))
 
 returns : tie.Need-returns Inv-loop μ-loop
-returns c =
-    let s = c .before .before .before .before in
-    let a = s .args in
-    all-reached (a .t .now) (a .chain .now) (a .p) (a .result .now) (s .pre) (c .before .loop .result) (c .before .loop .c) (c .before .loop .inv .2) (c .before .loop .inv .0) (c .loop-test .left)
+returns c = let l = c .before in all-reached _ _ _ _ (l .before .before .before .pre) _ _ (l .loop .inv .2) (l .loop .inv .0) (c .loop-test .left)
 
 pub add-cells-spec : {M : Type 1} → statement M
 add-cells-spec =

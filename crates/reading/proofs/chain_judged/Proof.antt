@@ -7,9 +7,7 @@ use Rattle.reading.proofs.chain_judged.Statement.{statement}
 use Rattle.reading.proofs.chain_judged.Tie as tie
 
 returns : tie.Need-returns
-returns c =
-    let a = c .before .before .args in
-    dimension-above (a .t .now) (a .chain .now) (a .p) (c .if1 .taken)
+returns c = dimension-above _ _ _ (c .if1 .taken)
 
 coefficients-small-requires : tie.Need-coefficients-small-requires
 coefficients-small-requires c κs = search needs
@@ -20,23 +18,20 @@ coefficients-placed-requires c κs = search needs
 returns-2 : tie.Need-returns-2
 returns-2 c =
     let s = c .before .before in
-    let a = s .before .before .before .args in
-    too-large (a .t .now) (a .chain .now) (a .p) (s .before .if1 .left)
+    too-large _ _ _ (s .before .if1 .left)
     (sym (s .coefficients-small .ensures) ∙ not-true _ (c .if2 .taken))
 
 returns-3 : tie.Need-returns-3
 returns-3 c =
     let s = c .before .before .before in
-    let a = s .before .before .before .args in
-    misplaced (a .t .now) (a .chain .now) (a .p) (s .before .if1 .left)
+    misplaced _ _ _ (s .before .if1 .left)
     (sym (s .coefficients-small .ensures) ∙ not-false _ (c .before .if2 .left))
     (sym (c .before .before .coefficients-placed .ensures) ∙ not-true _ (c .if3 .taken))
 
 returns-4 : tie.Need-returns-4
 returns-4 c =
     let s = c .before .before .before in
-    let a = s .before .before .before .args in
-    chain-passes (a .t .now) (a .chain .now) (a .p) (s .before .if1 .left)
+    chain-passes _ _ _ (s .before .if1 .left)
     (sym (s .coefficients-small .ensures) ∙ not-false _ (c .before .if2 .left))
     (sym (c .before .before .coefficients-placed .ensures) ∙ not-false _ (c .if3 .left))
 

@@ -18,8 +18,7 @@ abbrev μ-loop : tie.MeasureT-loop
 μ-loop result₀ k₀ result k = length result - k
 
 loop-holds : tie.Need-loop-holds Inv-loop μ-loop
-loop-holds c =
-    (search needs, refl, λ u h. absurd (not-suc-le-zero h))
+loop-holds c = (search needs, refl, λ u h. absurd (not-suc-le-zero h))
 
 mul-result : tie.Need-mul-result Inv-loop μ-loop
 mul-result c = search needs
@@ -31,8 +30,7 @@ add-k : tie.Need-add-k Inv-loop μ-loop
 add-k c = search needs
 
 loop-less : tie.Need-loop-less Inv-loop μ-loop
-loop-less c =
-    simp length-set (omega arith)
+loop-less c = simp length-set (omega arith)
 
 loop-again : tie.Need-loop-again Inv-loop μ-loop
 loop-again c =

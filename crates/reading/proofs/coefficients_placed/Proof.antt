@@ -1,14 +1,13 @@
 -- `reading::coefficients_placed` meets its contract. The invariant: every coefficient passed is 0 or stands at a live p-cell. The
 -- measure: what is left of the chain. Assumes nothing.
 use mathlib.Core.Logic.{⊎-elim}
-use mathlib.Core.Path.{_≡_, refl}
+use mathlib.Core.Path.{_≡_, refl, sym, _∙_}
 use mathlib.Core.Bool.{true}
 use Prim.Native.Nat.{_-_, _≤_}
 use native.Mathlib.Omega.{arith}
 use borrow.Author.Needs.{needs}
 use lib.ListN.{length}
 use Rattle.table.specs.Audit.{all}
-use Rattle.reading.specs.Boundary.{coefficient}
 use Rattle.reading.proofs.Lists.{all-zero, all-more}
 use Rattle.reading.proofs.Registers.{zero-back, no-zero}
 use Rattle.reading.proofs.Testing.{zero-placed, cell-placed, other-misplaced, placed-stops, placed-ends, placedAt}
@@ -23,7 +22,8 @@ abbrev μ-loop : tie.MeasureT-loop
 
 loop-holds : tie.Need-loop-holds Inv-loop μ-loop
 loop-holds c =
-    (search needs, refl, all-zero (placedAt (c .args .t .now) (c .args .chain .now) (c .args .p)))
+    let a = c .before .args in
+    (search needs, refl, all-zero (placedAt (a .t .now) (a .chain .now) (a .p)))
 
 mul-x : tie.Need-mul-x Inv-loop μ-loop
 mul-x c = search needs
@@ -31,21 +31,16 @@ mul-x c = search needs
 shared-slice-copy-out-x : tie.Need-shared-slice-copy-out-x Inv-loop μ-loop
 shared-slice-copy-out-x c = search needs
 
-mul-if2 : tie.Need-mul-if2 Inv-loop μ-loop
-mul-if2 c = search needs
-
-mul-if2-2 : tie.Need-mul-if2-2 Inv-loop μ-loop
-mul-if2-2 c = search needs
-
-shared-slice-read-if2 : tie.Need-shared-slice-read-if2 Inv-loop μ-loop
-shared-slice-read-if2 c = search needs
+dim-requires : tie.Need-dim-requires Inv-loop μ-loop
+dim-requires c κs = search needs
 
 returns : tie.Need-returns Inv-loop μ-loop
 returns c =
-    let b = c .before .before .before .before in
-    let a = b .before .before .args in
-    placed-stops (a .t .now) (a .chain .now) (a .p) (b .before .loop .c) (b .loop-test .taken) (b .before .before .pre .0)
-    (other-misplaced (a .t .now) (a .chain .now) (a .p) (b .before .loop .c) (no-zero (coefficient (a .chain .now) (b .before .loop .c)) (c .before .before .if1 .taken)) (c .if2 .taken))
+    let i = c .before .before .before .before in
+    let s = i .before .before .before in
+    let a = s .args in
+    placed-stops (a .t .now) (a .chain .now) (a .p) (i .before .loop .c) (i .loop-test .taken) (s .pre .0)
+    (other-misplaced (a .t .now) (a .chain .now) (a .p) (i .before .loop .c) (no-zero _ (c .before .before .if1 .taken)) (λ e. c .if2 .taken (c .before .dim .ensures ∙ e)))
 
 add-c : tie.Need-add-c Inv-loop μ-loop
 add-c c = search needs
@@ -55,21 +50,24 @@ loop-less c = search needs
 
 loop-again : tie.Need-loop-again Inv-loop μ-loop
 loop-again c =
-    let b = c .before .before in
-    let a = b .before .before .args in (
+    let i = c .before .before in
+    let s = i .before .before .before in
+    let a = s .args in (
       omega arith,
       refl,
-      all-more (placedAt (a .t .now) (a .chain .now) (a .p)) (b .before .loop .c) (b .before .loop .inv .2)
+      all-more (placedAt (a .t .now) (a .chain .now) (a .p)) (i .before .loop .c) (i .before .loop .inv .2)
           (⊎-elim
-          (λ w. cell-placed (a .t .now) (a .chain .now) (a .p) (b .before .loop .c) (no-zero (coefficient (a .chain .now) (b .before .loop .c)) (w .0 .taken)) (omega (arith, b .loop-test .taken, b .before .before .pre .0)) (b .before .before .pre .1) (w .2 .left))
-          (λ w. zero-placed (a .t .now) (a .chain .now) (a .p) (b .before .loop .c) (zero-back (coefficient (a .chain .now) (b .before .loop .c)) (record { sfits = c .before .x .given }) (w .left)))
+          (λ w. cell-placed (a .t .now) (a .chain .now) (a .p) (i .before .loop .c) (no-zero _ (w .0 .taken)) (omega (arith, i .loop-test .taken, s .pre .0)) (s .pre .1) (sym (w .1 .ensures) ∙ w .2 .left))
+          (λ w. zero-placed (a .t .now) (a .chain .now) (a .p) (i .before .loop .c) (zero-back _ (record { sfits = c .before .x .given }) (w .left)))
           (c .if1 .came)),
     )
 
 returns-2 : tie.Need-returns-2 Inv-loop μ-loop
 returns-2 c =
-    let a = c .before .before .args in
-    placed-ends (a .t .now) (a .chain .now) (a .p) (c .before .loop .c) (c .before .loop .inv .0) (c .loop-test .left) (c .before .before .pre .0) (c .before .loop .inv .2)
+    let l = c .before in
+    let s = l .before .before in
+    let a = s .args in
+    placed-ends (a .t .now) (a .chain .now) (a .p) (l .loop .c) (l .loop .inv .0) (c .loop-test .left) (s .pre .0) (l .loop .inv .2)
 
 pub coefficients-placed-spec : {M : Type 1} → statement M
 coefficients-placed-spec =
@@ -80,9 +78,7 @@ coefficients-placed-spec =
     loop-holds
     mul-x
     shared-slice-copy-out-x
-    mul-if2
-    mul-if2-2
-    shared-slice-read-if2
+    dim-requires
     returns
     add-c
     loop-less

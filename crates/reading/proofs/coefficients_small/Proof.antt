@@ -21,8 +21,7 @@ abbrev μ-loop : tie.MeasureT-loop
 μ-loop chain c₀ c-end c = c-end - c
 
 loop-holds : tie.Need-loop-holds Inv-loop μ-loop
-loop-holds c =
-    (search needs, refl, all-zero (smallAt (c .args .chain .now)))
+loop-holds c = (search needs, refl, all-zero (smallAt (c .args .chain .now)))
 
 mul-small : tie.Need-mul-small Inv-loop μ-loop
 mul-small c = search needs

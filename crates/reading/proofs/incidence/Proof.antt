@@ -17,14 +17,10 @@ of-cells-requires : tie.Need-of-cells-requires
 of-cells-requires c κs = search needs
 
 returns : tie.Need-returns
-returns c =
-    let a = c .before .before .before .before .before .args in
-    answer-refused (a .t .now) (a .s) (a .u) (c .before .before .before .audit .result) (c .before .before .before .audit .ensures) _ (c .before .found .given .1)
+returns c = answer-refused _ _ _ _ (c .before .before .before .audit .ensures) _ (c .before .found .given .1)
 
 returns-2 : tie.Need-returns-2
-returns-2 c =
-    let a = c .before .before .before .before .before .args in
-    answer-given (a .t .now) (a .s) (a .u) (c .before .before .before .audit .result) (c .before .before .before .audit .ensures) _ (c .before .enum-told .given .1) (c .of-cells .ensures)
+returns-2 c = answer-given _ _ _ _ (c .before .before .before .audit .ensures) _ (c .before .enum-told .given .1) (c .of-cells .ensures)
 
 pub incidence-spec : {M : Type 1} → statement M
 incidence-spec =

@@ -10,9 +10,7 @@ lengths-fit-requires : tie.Need-lengths-fit-requires
 lengths-fit-requires c κs = search needs
 
 returns : tie.Need-returns
-returns c =
-    let a = c .before .before .before .args in
-    lengths-refused (a .t .now) (a .chain .now) (a .p) (a .result .now) (sym (c .before .lengths-fit .ensures) ∙ not-true _ (c .if1 .taken))
+returns c = lengths-refused _ _ _ _ (sym (c .before .lengths-fit .ensures) ∙ not-true _ (c .if1 .taken))
 
 audit-requires : tie.Need-audit-requires
 audit-requires c κs = search needs
@@ -26,20 +24,17 @@ enum-told c = search needs
 chain-judged-requires : tie.Need-chain-judged-requires
 chain-judged-requires c κs =
     let b = c .before .before .before in
-    let a = b .before .before .before .args in
-    lengths-say (a .t .now) (a .chain .now) (a .result .now) (sym (b .before .lengths-fit .ensures) ∙ not-false _ (b .if1 .left)) .chain
+    lengths-say _ _ _ (sym (b .before .lengths-fit .ensures) ∙ not-false _ (b .if1 .left)) .chain
 
 returns-2 : tie.Need-returns-2
 returns-2 c =
     let b = c .before .before .before .before in
-    let a = b .before .before .before .args in
-    audit-refused (a .t .now) (a .chain .now) (a .p) (a .result .now) (sym (b .before .lengths-fit .ensures) ∙ not-false _ (b .if1 .left)) (c .before .before .before .audit .result) (c .before .before .before .audit .ensures) _ (c .before .found .given .1)
+    audit-refused _ _ _ _ (sym (b .before .lengths-fit .ensures) ∙ not-false _ (b .if1 .left)) _ (c .before .before .before .audit .ensures) _ (c .before .found .given .1)
 
 returns-3 : tie.Need-returns-3
 returns-3 c =
     let b = c .before .before .before .before in
-    let a = b .before .before .before .args in
-    audit-passed (a .t .now) (a .chain .now) (a .p) (a .result .now) (sym (b .before .lengths-fit .ensures) ∙ not-false _ (b .if1 .left)) (c .before .before .before .audit .result) (c .before .before .before .audit .ensures) _ (c .before .enum-told .given .1) (c .chain-judged .ensures)
+    audit-passed _ _ _ _ (sym (b .before .lengths-fit .ensures) ∙ not-false _ (b .if1 .left)) _ (c .before .before .before .audit .ensures) _ (c .before .enum-told .given .1) (c .chain-judged .ensures)
 
 pub judged-spec : {M : Type 1} → statement M
 judged-spec =

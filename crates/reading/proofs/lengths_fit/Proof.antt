@@ -8,19 +8,13 @@ of-requires : tie.Need-of-requires
 of-requires c κs = search needs
 
 returns : tie.Need-returns
-returns c =
-    let a = c .before .before .before .args in
-    no-table (a .t .now) (a .chain .now) (a .result .now) _ (c .before .of .ensures) (c .if1 .taken)
+returns c = no-table _ _ _ _ (c .before .of .ensures) (c .if1 .taken)
 
 returns-2 : tie.Need-returns-2
-returns-2 c =
-    let a = c .before .before .before .before .args in
-    chain-differs (a .t .now) (a .chain .now) (a .result .now) _ (c .before .before .of .ensures) (c .before .if1 .left) (c .if2 .taken)
+returns-2 c = chain-differs _ _ _ _ (c .before .before .of .ensures) (c .before .if1 .left) (c .if2 .taken)
 
 returns-3 : tie.Need-returns-3
-returns-3 c =
-    let a = c .before .before .before .before .args in
-    chain-fits (a .t .now) (a .chain .now) (a .result .now) _ (c .before .before .of .ensures) (c .before .if1 .left) (c .if2 .left)
+returns-3 c = chain-fits _ _ _ _ (c .before .before .of .ensures) (c .before .if1 .left) (c .if2 .left)
 
 pub lengths-fit-spec : {M : Type 1} → statement M
 lengths-fit-spec = tie.close (tie.spec of-requires returns returns-2 returns-3)
