@@ -2,7 +2,7 @@
 -- face 0. What carries it: a face of a live cell is live, one dimension down. Assumes nothing.
 use mathlib.Core.Path.{_≡_, refl, ap, sym, _∙_}
 use mathlib.Core.List.{List}
-use Prim.Native.Nat.{ℕ, zero, suc, _+_, _-_, _≤_, _<_}
+use Prim.Native.Nat.{ℕ, zero, suc, _-_, _≤_, _<_}
 use native.Mathlib.Omega.{arith}
 use borrow.Author.Tests.{lt-ltb, le-ltb}
 use Rattle.table.specs.Kind.{used}
@@ -10,7 +10,7 @@ use Rattle.table.specs.Table.{dim, face, Live, Valid}
 use Rattle.audit.proofs.Places.{used-is}
 use Rattle.corner.specs.Corner.{cornerAt, cornerOf}
 
-pub corner-as : (t : List ℕ) (c k q : ℕ) → dim t c ≡ q → cornerOf t c k ≡ cornerAt t q c k
+corner-as : (t : List ℕ) (c k q : ℕ) → dim t c ≡ q → cornerOf t c k ≡ cornerAt t q c k
 unfolding cornerOf
 corner-as t c k q e = ap (λ (n : ℕ). cornerAt t n c k) e
 
@@ -20,7 +20,7 @@ corner-of-point t c k e = corner-as t c k 0 e
 
 module _ (t : List ℕ) (v : Valid t) (c p : ℕ) (l : Live t c) (e : dim t c ≡ suc p) where
   -- places 0 to p + 1 are used
-  pub place-used : (j : ℕ) → j ≤ suc p → j < used (dim t c)
+  place-used : (j : ℕ) → j ≤ suc p → j < used (dim t c)
   place-used j h = omega (arith, used-is (dim t c) (omega arith) (l .low))
 
   pub face-lives : (j : ℕ) → j ≤ suc p → Live t (face t c j)

@@ -41,15 +41,10 @@ fn of_valid(t: &[u16], c: u16, k: u16) -> Named
     requires { ⌜ Valid (now t) ⌝ }
     ensures { λ r. ⌜ r ≡ cornerAnswer (now (t .entry)) c k ⌝ }
 {
-    let n = Table::of(t).cells;
-    if c as usize >= n {
+    if !Table::live(t, c as usize) {
         return Named::NoCell(Refusal::NotLive);
     }
-    let p = Table::dim(t, c as usize);
-    if p > Table::TOP {
-        return Named::NoCell(Refusal::NotLive);
-    }
-    if k > p {
+    if k > Table::dim(t, c as usize) {
         return Named::NoCell(Refusal::NoSuchPlace);
     }
     Named::Cell(corner_of(t, c, k))

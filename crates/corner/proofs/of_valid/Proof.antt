@@ -1,59 +1,46 @@
 -- `corner::of_valid` meets its contract: each way out is one of the answers of CornerAnswers. Assumes nothing.
+use mathlib.Core.Path.{_≡_, sym, ap, _∙_}
+use mathlib.Core.Bool.{true}
 use native.Mathlib.Omega.{arith}
-use mathlib.Core.Path.{_≡_, sym, ap, subst, _∙_}
-use Prim.Native.Nat.{_≤_, _<_}
 use borrow.Author.Needs.{needs}
-use Rattle.table.specs.Table.{dim, Live}
+use borrow.Author.Tests.{not-true, not-false}
+use Rattle.table.specs.Table.{live}
 use Rattle.table.specs.declared.Named.the-variants.{Cell}
-use Rattle.table.proofs.Records.{sized-cells-is}
-use Rattle.corner.proofs.CornerAnswers.{outside-refused, free-refused, past-refused, corner-given}
+use Rattle.table.proofs.Records.{live-true}
+use Rattle.corner.proofs.CornerAnswers.{dead-refused, past-refused, corner-given}
 use Rattle.corner.proofs.of_valid.Statement.{statement}
 use Rattle.corner.proofs.of_valid.Tie as tie
 
-of-requires : tie.Need-of-requires
-of-requires c κs = search needs
+live-requires : tie.Need-live-requires
+live-requires c κs = search needs
 
 returns : tie.Need-returns
 returns c =
-    let s = c .before .before .before in
-    outside-refused _ _ _ (s .pre) (omega (arith, c .before .of .ensures, sized-cells-is _ (s .pre .sized)))
+    dead-refused _ _ _ (c .before .before .before .pre) (sym (c .before .live .ensures) ∙ not-true _ (c .if1 .taken))
+
+-- the cell is live once the test is passed
+living : (c : tie.Else1) → live (c .before .before .before .args .t .now) (c .before .before .before .args .c) ≡ true
+living c = sym (c .before .live .ensures) ∙ not-false _ (c .if1 .left)
 
 dim-requires : tie.Need-dim-requires
-dim-requires c κs = omega (arith, c .before .of .ensures, sized-cells-is _ (c .before .before .before .pre .sized))
+dim-requires c κs = live-true _ _ (living c) .inside
 
 returns-2 : tie.Need-returns-2
 returns-2 c =
-    let s = c .before .before .before .before .before in
-    free-refused _ _ _ (s .pre)
-    (omega (arith, c .before .before .before .of .ensures, sized-cells-is _ (s .pre .sized)))
-    (omega (arith, c .before .dim .ensures))
-
--- the cell is live once the two tests are passed
-living : (c : tie.Else2) → Live (c .before .before .before .before .before .args .t .now) (c .before .before .before .before .before .args .c)
-living c =
-    let s = c .before .before .before .before .before in
-    record {
-      inside = omega (arith, c .before .before .before .of .ensures, sized-cells-is _ (s .pre .sized));
-      low = omega (arith, c .before .dim .ensures);
-    }
-
-returns-3 : tie.Need-returns-3
-returns-3 c =
-    let s = c .before .before .before .before .before .before in
-    past-refused _ _ _ (s .pre) (living (c .before)) (omega (arith, c .before .before .dim .ensures))
+    let d = c .before in
+    past-refused _ _ _ (d .before .before .before .before .pre) (living (d .before)) (omega (arith, d .dim .ensures))
 
 corner-of-requires : tie.Need-corner-of-requires
 corner-of-requires c κs =
-    let s = c .before .before .before .before .before .before in
-    (s .pre, (living (c .before), omega (arith, c .before .before .dim .ensures)))
+    let d = c .before in
+    (d .before .before .before .before .pre, (live-true _ _ (living (d .before)), omega (arith, d .dim .ensures)))
 
-returns-4 : tie.Need-returns-4
-returns-4 c =
-    let s = c .before .before .before .before .before .before .before in
+returns-3 : tie.Need-returns-3
+returns-3 c =
+    let d = c .before .before in
     ap Cell (c .corner-of .ensures)
-    ∙ corner-given _ _ _ (s .pre) (living (c .before .before)) (omega (arith, c .before .before .before .dim .ensures))
+    ∙ corner-given _ _ _ (d .before .before .before .before .pre) (living (d .before)) (omega (arith, d .dim .ensures))
 
 pub of-valid-spec : {M : Type 1} → statement M
 of-valid-spec =
-    tie.close
-    (tie.spec of-requires returns dim-requires returns-2 returns-3 corner-of-requires returns-4)
+    tie.close (tie.spec live-requires returns dim-requires returns-2 corner-of-requires returns-3)
