@@ -1,12 +1,12 @@
 -- The counters of the sides, place by place: what one turn of the count leaves in them.
 -- What carries it: within cell c a counter is ahead by one exactly where a place passed so far names its cell. Assumes nothing.
 use mathlib.Core.Path.{_≡_, refl, sym, ap, subst, _∙_}
-use mathlib.Core.Bool.{Bool, true, false, _||_, not, or-false}
+use mathlib.Core.Bool.{Bool, true, false, _||_, not, or-true, or-false}
 use mathlib.Core.List.{List}
 use Prim.Native.Nat.{ℕ, _+_, _≤_, _<_}
 use native.Mathlib.Numerals.{add-one}
 use native.Mathlib.Omega.{arith}
-use borrow.Author.Tests.{eq-eqb, ne-eqb, eqb-true, eqb-false, not-true, not-false}
+use borrow.Author.Tests.{eq-eqb, ne-eqb, not-true, not-false}
 use lib.ListN.{length, getD, set, replicate, length-set, length-replicate, getD-replicate}
 use lib.Seq.{getD-set-same, getD-set-other}
 use lib.Dec.{eqb}
@@ -14,6 +14,7 @@ use Rattle.counting.proofs.Counting.{howMany-most, someHas-at}
 use Rattle.counting.specs.Counting.{howMany, someHas}
 use Rattle.table.specs.Kind.{capacity, pick, used}
 use Rattle.table.specs.Table.{cellsOf, dim, face, Valid}
+use Rattle.table.proofs.Cases.{same-or-other}
 use Rattle.audit.proofs.Places.{used-says}
 use Rattle.sheet.specs.Sheet.{hasFace}
 use Rattle.sheet.specs.Sides.{namedBelow, sidesBelow, Counted}
@@ -32,11 +33,7 @@ module _ (t : List ℕ) where
   unfolding namedBelow hasFace
   named-all c u = refl
 
-  or-true : (b : Bool) → (b || true) ≡ true
-  or-true true = refl
-  or-true false = refl
-
-  pub named-here : (c u j : ℕ) → face t c j ≡ u → namedBelow t c u (j + 1) ≡ true
+  named-here : (c u j : ℕ) → face t c j ≡ u → namedBelow t c u (j + 1) ≡ true
   named-here c u j e = named-more c u j ∙ ap (λ b. namedBelow t c u j || b) (eq-eqb (face t c j) u e) ∙ or-true (namedBelow t c u j)
 
   pub named-other : (c u j : ℕ) → (face t c j ≡ u → ⊥) → namedBelow t c u (j + 1) ≡ namedBelow t c u j
@@ -90,7 +87,11 @@ module _ (t k : List ℕ) (c : ℕ) where
   counting-new j f h e i n =
       record {
         room = rw (length-set k f (getD k f 0 + 1)) (h .room);
-        each = λ u l. go u l (eqb f u) refl;
+        each = λ u l.
+            same-or-other (OneMore j f) u f here
+            (λ ne.
+            rw (named-other t c u j (λ q. ne (sym q ∙ e)))
+            (getD-set-other k f u (getD k f 0 + 1) 0 ne ∙ h .each u l));
       }
     where
       before : getD k f 0 ≡ sidesBelow t f c
@@ -101,37 +102,30 @@ module _ (t k : List ℕ) (c : ℕ) where
           rw (named-here t c f j e)
           (getD-set-same k f (getD k f 0 + 1) 0 (omega (arith, h .room)) ∙ ap (λ m. m + 1) before)
 
-      go : (u : ℕ) → u < cellsOf t → (b : Bool) → eqb f u ≡ b → OneMore j f u
-      go u l true w = subst (OneMore j f) (eqb-true f u w) here
-      go u l false w =
-          rw (named-other t c u j (λ q. eqb-false f u w (sym e ∙ q)))
-          (getD-set-other k f u (getD k f 0 + 1) 0 (λ q. eqb-false f u w (sym q)) ∙ h .each u l)
-
   -- and one that was named before counts no more.
   counting-old : (j f : ℕ) → Counting t k c j → face t c j ≡ f → namedBelow t c f j ≡ true → Counting t k c (j + 1)
   counting-old j f h e n =
       record {
         room = h .room;
-        each = λ u l. rw (same u (eqb f u) refl) (h .each u l);
+        each = λ u l. rw (same u) (h .each u l);
       }
     where
-      same : (u : ℕ) (b : Bool) → eqb f u ≡ b → namedBelow t c u (j + 1) ≡ namedBelow t c u j
-      same u true w =
-          let i : f ≡ u = eqb-true f u w in
-          named-here t c u j (e ∙ i) ∙ sym n ∙ ap (λ s. namedBelow t c s j) i
-      same u false w = named-other t c u j (λ q. eqb-false f u w (sym e ∙ q))
+      same : (u : ℕ) → namedBelow t c u (j + 1) ≡ namedBelow t c u j
+      same u =
+          same-or-other (λ s. namedBelow t c s (j + 1) ≡ namedBelow t c s j) u f
+          (named-here t c f j e ∙ sym n)
+          (λ ne. named-other t c u j (λ q. ne (sym q ∙ e)))
 
   -- So a turn of the count over the places keeps its invariant: the length, and what is counted.
   abbrev Turned : ℕ → List ℕ → List ℕ → Type 0
   Turned j k₀ k′ = (length k′ ≡ length k₀) × Counting t k′ c (j + 1)
 
-  pub turn-new : (j : ℕ) (b : Bool) (k₀ k′ : List ℕ) → length k ≡ length k₀ → Counting t k c j → face t c j < cellsOf t → b ≡ namedBelow t c (face t c j) j → not b ≡ true → k′ ≡ set k (face t c j) (getD k (face t c j) 0 + 1) → Turned j k₀ k′
-  turn-new j b k₀ k′ l h i n f e =
-      rw e
-      (length-set k (face t c j) (getD k (face t c j) 0 + 1) ∙ l, counting-new j (face t c j) h refl i (sym n ∙ not-true b f))
+  pub turn-new : (j f : ℕ) (b : Bool) (k₀ k′ : List ℕ) → length k ≡ length k₀ → Counting t k c j → f ≡ face t c j → f < cellsOf t → b ≡ namedBelow t c f j → not b ≡ true → k′ ≡ set k f (getD k f 0 + 1) → Turned j k₀ k′
+  turn-new j f b k₀ k′ l h a i n y e =
+      rw e (length-set k f (getD k f 0 + 1) ∙ l, counting-new j f h (sym a) i (sym n ∙ not-true b y))
 
-  pub turn-old : (j : ℕ) (b : Bool) (k₀ k′ : List ℕ) → length k ≡ length k₀ → Counting t k c j → b ≡ namedBelow t c (face t c j) j → not b ≡ false → k′ ≡ k → Turned j k₀ k′
-  turn-old j b k₀ k′ l h n f e = rw e (l, counting-old j (face t c j) h refl (sym n ∙ not-false b f))
+  pub turn-old : (j f : ℕ) (b : Bool) (k₀ k′ : List ℕ) → length k ≡ length k₀ → Counting t k c j → f ≡ face t c j → b ≡ namedBelow t c f j → not b ≡ false → k′ ≡ k → Turned j k₀ k′
+  turn-old j f b k₀ k′ l h a n y e = rw e (l, counting-old j f h (sym a) (sym n ∙ not-false b y))
 
   -- After all places the cell is counted.
   pub counting-ends : (j : ℕ) → Counting t k c j → j ≡ used (dim t c) → Counted t k (c + 1)
@@ -159,5 +153,5 @@ counted-all t k c n e h l i =
     subst (Counted t k) z i
 
 -- every face of a record lies inside a valid table
-pub face-in : (t : List ℕ) → Valid t → (c j : ℕ) → c < cellsOf t → j < used (dim t c) → face t c j < cellsOf t
-face-in t v c j h l = v .face-live c j (record { inside = h; low = used-says (dim t c) j l .1 }) l .inside
+pub face-in : (t : List ℕ) → Valid t → (c j f : ℕ) → c < cellsOf t → j < used (dim t c) → f ≡ face t c j → f < cellsOf t
+face-in t v c j f h l e = rw e (v .face-live c j (record { inside = h; low = used-says (dim t c) j l .1 }) l .inside)

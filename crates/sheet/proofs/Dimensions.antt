@@ -5,7 +5,7 @@ use mathlib.Core.Bool.{Bool, true, false, false≢true, or-false}
 use mathlib.Core.List.{List}
 use mathlib.Core.Logic.{_⊎_, inl, inr, ⊎-elim}
 use Prim.Native.Nat.{ℕ, zero, suc, max, _+_, _≤_, _<_}
-use native.Mathlib.Nat.{not-suc-le-zero, le-of-suc-le-suc, eq-or-lt-of-le, le-max-left, le-max-right, max-eq-left, max-eq-right, zero-max, suc-max-suc}
+use native.Mathlib.Nat.{not-suc-le-zero, le-max-left, le-max-right, max-eq-left, max-eq-right, zero-max, suc-max-suc}
 use native.Mathlib.Numerals.{add-one}
 use native.Mathlib.Omega.{arith}
 use Rattle.counting.specs.Counting.{someHas}
@@ -14,6 +14,7 @@ use Rattle.counting.proofs.Counting.{someHas-at, someHas-each}
 use Rattle.table.specs.Kind.{top, faces, pick}
 use Rattle.table.specs.Table.{cellsOf, dim, live}
 use Rattle.table.proofs.Records.{live-says, live-true}
+use Rattle.audit.proofs.Scans.{at-or-below}
 use Rattle.audit.proofs.Records.{not-true-false}
 use Rattle.sheet.specs.Sheet.{largestDim}
 use Rattle.sheet.specs.Sides.{levelsBelow}
@@ -42,14 +43,11 @@ module _ (t : List ℕ) where
   -- no live cell exceeds it
   pub largest-bounds : (m c : ℕ) → c < m → live t c ≡ true → dim t c ≤ largestDim t m
   largest-bounds zero c h e = absurd (not-suc-le-zero h)
-  largest-bounds (suc m) c h e = go (eq-or-lt-of-le (le-of-suc-le-suc h)) (largest-bounds m c)
-    where
-      go : (c ≡ m) ⊎ (c < m) → (c < m → live t c ≡ true → dim t c ≤ largestDim t m) → dim t c ≤ largestDim t (suc m)
-      go (inl i) below =
-          let l : live t m ≡ true = sym (ap (live t) i) ∙ e in
-          let d : dim t c ≡ dim t m = ap (dim t) i in
-          omega (arith, d, largest-live m l, le-max-right (largestDim t m) (dim t m))
-      go (inr l) below = omega (arith, below l e, largest-grows m)
+  largest-bounds (suc m) c h e =
+      at-or-below (λ s. live t s ≡ true → dim t s ≤ largestDim t (suc m)) c m h
+      (λ l. omega (arith, largest-live m l, le-max-right (largestDim t m) (dim t m)))
+      (λ l i. omega (arith, largest-bounds m c l i, largest-grows m))
+      e
 
   -- a live cell has it, or no cell is live
   pub record Attained (m : ℕ) : Type 0 where
@@ -91,7 +89,7 @@ module _ (t : List ℕ) where
   pub largest-attained : (m : ℕ) → someHas (live t) m ≡ true → Attained m
   largest-attained m e = ⊎-elim (λ a. a) (λ b. absurd (false≢true (sym (b .0) ∙ e))) (attained-or-bare m)
 
-  pub largest-bare : (m : ℕ) → someHas (live t) m ≡ false → largestDim t m ≡ 0
+  largest-bare : (m : ℕ) → someHas (live t) m ≡ false → largestDim t m ≡ 0
   largest-bare m e =
       ⊎-elim
       (λ a. absurd (false≢true (sym (someHas-each (live t) m e (a .cell) (a .inside)) ∙ a .living)))
@@ -124,17 +122,19 @@ module _ (t : List ℕ) where
   abbrev Turned : ℕ → ℕ → Type 0
   Turned m l′ = (l′ ≡ levelsBelow t (m + 1)) × (l′ ≤ faces)
 
-  pub turn-higher : (m l l′ : ℕ) → m < cellsOf t → l ≡ levelsBelow t m → dim t m ≤ top → l ≤ dim t m → l′ ≡ dim t m + 1 → Turned m l′
-  turn-higher m l l′ h e low up i =
-      (i ∙ sym (levels-higher m (live-says t m (record { inside = h; low = low })) (omega arith)), omega arith)
+  module _ (m l p l′ : ℕ) (h : m < cellsOf t) (e : l ≡ levelsBelow t m) (few : l ≤ faces) (d : p ≡ dim t m) where
+    living : p ≤ top → live t m ≡ true
+    living low = live-says t m (record { inside = h; low = omega arith })
 
-  pub turn-lower : (m l l′ : ℕ) → m < cellsOf t → l ≡ levelsBelow t m → l ≤ faces → dim t m ≤ top → dim t m < l → l′ ≡ l → Turned m l′
-  turn-lower m l l′ h e few low down i =
-      (i ∙ e ∙ sym (levels-lower m (live-says t m (record { inside = h; low = low })) (omega arith)), omega arith)
+    pub turn-higher : p ≤ top → l ≤ p → l′ ≡ p + 1 → Turned m l′
+    turn-higher low up i = (omega (arith, levels-higher m (living low) (omega arith)), omega arith)
 
-  pub turn-free : (m l l′ : ℕ) → l ≡ levelsBelow t m → l ≤ faces → top < dim t m → l′ ≡ l → Turned m l′
-  turn-free m l l′ e few free i =
-      (i ∙ e ∙ sym (levels-past m (not-true-false (live t m) (λ v. omega (arith, live-true t m v .low)))), omega arith)
+    pub turn-lower : p ≤ top → p < l → l′ ≡ l → Turned m l′
+    turn-lower low down i = (i ∙ e ∙ sym (levels-lower m (living low) (omega arith)), omega arith)
+
+    pub turn-free : top < p → l′ ≡ l → Turned m l′
+    turn-free free i =
+        (i ∙ e ∙ sym (levels-past m (not-true-false (live t m) (λ v. omega (arith, live-true t m v .low)))), omega arith)
 
   pub levels-all : (l m n : ℕ) → n ≡ cellsOf t → m ≤ n → n ≤ m → l ≡ levelsBelow t m → l ≡ levelsBelow t (cellsOf t)
   levels-all l m n e h g i =

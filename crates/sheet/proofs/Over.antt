@@ -23,7 +23,7 @@ module _ (t : List ℕ) where
     pub used-place : place < used (dim t cell)
     pub names : face t cell place ≡ u
 
-  pub has-face : (c j u : ℕ) → j < used (dim t c) → face t c j ≡ u → hasFace t c u ≡ true
+  has-face : (c j u : ℕ) → j < used (dim t c) → face t c j ≡ u → hasFace t c u ≡ true
   unfolding hasFace
   has-face c j u h e =
       someHas-at (λ l. eqb (face t c l) u) (used (dim t c)) j h (eq-eqb (face t c j) u e)

@@ -7,19 +7,20 @@ use mathlib.Core.Logic.{_⊎_, inl, inr, ⊎-elim}
 use Prim.Native.Nat.{ℕ, suc, _+_, _≤_, _<_}
 use native.Mathlib.Numerals.{add-one}
 use native.Mathlib.Omega.{arith}
-use borrow.Author.Tests.{eq-eqb, ne-eqb, le-leb, eqb-true, eqb-false, leb-true, ltb-true, ltb-false, not-true, not-false}
+use borrow.Author.Tests.{eq-eqb, ne-eqb, le-leb, eqb-true, eqb-false, leb-true, lt-ltb, le-ltb, not-true, not-false}
 use lib.ListN.{getD}
 use lib.Dec.{eqb, leb, ltb}
 use Rattle.counting.specs.Counting.{someHas}
 use Rattle.table.specs.Kind.{top, pick}
 use Rattle.table.specs.Table.{cellsOf, dim, Live, live, Valid}
 use Rattle.table.specs.Audit.{all}
-use Rattle.audit.proofs.Scans.{and-both, all-true, all-says}
+use Rattle.audit.proofs.Scans.{and-both, or-else, all-true, all-says}
+use Rattle.table.proofs.Cases.{below-or-not}
 use Rattle.audit.proofs.Records.{not-true-false}
 use Rattle.sheet.specs.Sheet.{topDim, isSheet}
 use Rattle.sheet.specs.Sides.{levelsBelow, sidesBelow, Counted, passes, allPass}
 use Rattle.sheet.proofs.Dimensions.{levels-are}
-use Rattle.sheet.proofs.Sheets.{Tests, sheet-tests, tests-sheet, not-or, or-not, cases-or}
+use Rattle.sheet.proofs.Sheets.{Tests, sheet-tests, tests-sheet, or-not, cases-or}
 use Rattle.sheet.proofs.Wings.{wings-are-sides, covered-sides, sides-covered}
 
 -- What the test of one cell says.
@@ -30,7 +31,7 @@ pass-cases : (a b z d e : Bool) → (a || (b || (not z && (not d || e)))) ≡ tr
 pass-cases true b z d e h i = absurd (false≢true (sym i))
 pass-cases false true z d e h i = inl refl
 pass-cases false false true d e h i = absurd (false≢true h)
-pass-cases false false false d e h i = inr (refl, λ q. not-or d e q h)
+pass-cases false false false d e h i = inr (refl, λ q. or-else (not d) e h (ap not q))
 
 module _ (p l k : ℕ) where
   passes-true : passes p l k ≡ true → p ≤ top → Passing p l k
@@ -38,8 +39,7 @@ module _ (p l k : ℕ) where
       ⊎-elim
       (λ i. inl (eqb-true (p + 1) l i))
       (λ w. let z : (k ≡ 0 → ⊥) = eqb-false k 0 (w .0) in inr (omega arith, λ i. leb-true k 2 (w .1 (eq-eqb (p + 2) l i))))
-      (pass-cases (ltb top p) (eqb (p + 1) l) (eqb k 0) (eqb (p + 2) l) (leb k 2) e
-      (not-true-false (ltb top p) (λ i. omega (arith, ltb-true top p i))))
+      (pass-cases (ltb top p) (eqb (p + 1) l) (eqb k 0) (eqb (p + 2) l) (leb k 2) e (le-ltb top p h))
 
   later-says : Passing p l k → (eqb (p + 1) l || (not (eqb k 0) && (not (eqb (p + 2) l) || leb k 2))) ≡ true
   later-says h =
@@ -52,11 +52,8 @@ module _ (p l k : ℕ) where
       h)
 
   passes-says : (p ≤ top → Passing p l k) → passes p l k ≡ true
-  passes-says h = go (ltb top p) refl
-    where
-      go : (a : Bool) → ltb top p ≡ a → passes p l k ≡ true
-      go true i = rw i
-      go false i = rw i (later-says (h (ltb-false top p i)))
+  passes-says h =
+      ⊎-elim (λ i. rw (lt-ltb top p i)) (λ i. rw (le-ltb top p i) (later-says (h i))) (below-or-not top p)
 
 same-truth : (a b : Bool) → (a ≡ true → b ≡ true) → (b ≡ true → a ≡ true) → a ≡ b
 same-truth true b f g = sym (f refl)
@@ -96,7 +93,7 @@ module _ (t k : List ℕ) (l : ℕ) (valid : Valid t) (counted : Counted t k (ce
       (λ b. inr (omega (arith, covered-sides t c b), λ q. omega (arith, s .pairs c v (omega (arith, levels)), wings-are-sides t valid (topDim t) c (omega (arith, levels)))))
       (s .over c v))
 
-  pub passes-is-sheet : allPass t l k ≡ isSheet t
+  passes-is-sheet : allPass t l k ≡ isSheet t
   unfolding allPass
   passes-is-sheet =
       same-truth (all (cellsOf t) passesAt) (isSheet t)
@@ -133,15 +130,19 @@ module _ (t k : List ℕ) (l : ℕ) where
   unfolding all
   passed-none = refl
 
-  pub passed-more : (c : ℕ) (b : Bool) → passed c → b ≡ passes (dim t c) l (getD k c 0) → not b ≡ false → passed (c + 1)
-  unfolding all
-  passed-more c b h e i = rw (add-one c, h) (sym e ∙ not-false b i)
+  -- the test of cell c answers b, where p is its dimension
+  answers : (c p : ℕ) (b : Bool) → p ≡ dim t c → b ≡ passes p l (getD k c 0) → passes (dim t c) l (getD k c 0) ≡ b
+  answers c p b d e = ap (λ q. passes q l (getD k c 0)) (sym d) ∙ sym e
 
-  pub passed-stops : (c n : ℕ) (b : Bool) → n ≡ cellsOf t → c < n → b ≡ passes (dim t c) l (getD k c 0) → not b ≡ true → false ≡ allPass t l k
+  pub passed-more : (c p : ℕ) (b : Bool) → passed c → p ≡ dim t c → b ≡ passes p l (getD k c 0) → not b ≡ false → passed (c + 1)
+  unfolding all
+  passed-more c p b h d e i = rw (add-one c, h) (answers c p b d e ∙ not-false b i)
+
+  pub passed-stops : (c n p : ℕ) (b : Bool) → n ≡ cellsOf t → c < n → p ≡ dim t c → b ≡ passes p l (getD k c 0) → not b ≡ true → false ≡ allPass t l k
   unfolding allPass
-  passed-stops c n b z h e i =
+  passed-stops c n p b z h d e i =
       sym (not-true-false (all (cellsOf t) (λ s. passes (dim t s) l (getD k s 0)))
-      (λ a. false≢true (sym (sym e ∙ not-true b i) ∙ all-true (λ s. passes (dim t s) l (getD k s 0)) (cellsOf t) a c (omega arith))))
+      (λ a. false≢true (sym (answers c p b d e ∙ not-true b i) ∙ all-true (λ s. passes (dim t s) l (getD k s 0)) (cellsOf t) a c (omega arith))))
 
   pub passed-all : (c n : ℕ) → n ≡ cellsOf t → c ≤ n → n ≤ c → passed c → true ≡ allPass t l k
   unfolding allPass

@@ -1,19 +1,20 @@
 -- The sheet test says yes exactly where the table is a sheet as described.
 -- What carries it: a live cell that is no n-cell has a cell over it, one dimension up, so the way up ends at an n-cell; and what is
 -- reached is an n-cell or has one over it. The measure of the way up: n less the dimension. Assumes nothing.
-use mathlib.Core.Path.{_≡_, refl, sym, subst, _∙_}
-use mathlib.Core.Bool.{Bool, true, false, _&&_, _||_, not, false≢true}
+use mathlib.Core.Path.{_≡_, refl, sym, ap, subst, _∙_}
+use mathlib.Core.Bool.{Bool, true, false, _&&_, _||_, not, or-true}
 use mathlib.Core.List.{List}
 use mathlib.Core.Logic.{_⊎_, inl, inr, ⊎-elim, _↔_}
 use Prim.Native.Nat.{ℕ, zero, suc, _+_, _-_, _≤_}
 use native.Mathlib.Omega.{arith}
-use borrow.Author.Tests.{eq-eqb, le-leb, eqb-true, leb-true}
+use borrow.Author.Tests.{eq-eqb, ne-eqb, le-leb, eqb-true, leb-true}
 use lib.Dec.{eqb, leb}
 use Rattle.counting.specs.Counting.{someHas}
 use Rattle.counting.proofs.Counting.{someHas-at}
 use Rattle.table.specs.Table.{cellsOf, dim, face, Live, live, Valid}
 use Rattle.table.specs.Audit.{all}
-use Rattle.audit.proofs.Scans.{and-left, and-right, and-both, all-true, all-says}
+use Rattle.audit.proofs.Scans.{and-left, and-right, and-both, or-else, all-true, all-says}
+use Rattle.table.proofs.Cases.{same-or-not}
 use Rattle.table.proofs.Records.{live-says, live-true}
 use Rattle.audit.proofs.Records.{not-true-false}
 use Rattle.sheet.specs.Sheet.{Reached, itself, through, wings, IsSheet, topDim, covered, isSheet}
@@ -26,22 +27,12 @@ pub record Tests (t : List ℕ) : Type 0 where
   pub over : (c : ℕ) → Live t c → (dim t c ≡ topDim t) ⊎ (covered t c ≡ true)
   pub pairs : (u : ℕ) → Live t u → suc (dim t u) ≡ topDim t → wings t (topDim t) u ≤ 2
 
-pub not-or : (a b : Bool) → a ≡ true → (not a || b) ≡ true → b ≡ true
-not-or true b e h = h
-not-or false b e h = absurd (false≢true e)
-
 pub or-not : (a b : Bool) → (a ≡ true → b ≡ true) → (not a || b) ≡ true
 or-not true b h = h refl
 or-not false b h = refl
 
-or-cases : (a b : Bool) → (a || b) ≡ true → (a ≡ true) ⊎ (b ≡ true)
-or-cases true b e = inl refl
-or-cases false b e = inr e
-
 pub cases-or : (a b : Bool) → (a ≡ true) ⊎ (b ≡ true) → (a || b) ≡ true
-cases-or true b e = refl
-cases-or false b (inl e) = absurd (false≢true e)
-cases-or false b (inr e) = e
+cases-or a b = ⊎-elim (λ e. rw e) (λ e. rw e (or-true a))
 
 module _ (t : List ℕ) where
   abbrev overAt : ℕ → Bool
@@ -58,21 +49,21 @@ module _ (t : List ℕ) where
 
   over-true : (c : ℕ) → overAt c ≡ true → Live t c → (dim t c ≡ topDim t) ⊎ (covered t c ≡ true)
   over-true c e v =
-      ⊎-elim (λ i. inl (eqb-true (dim t c) (topDim t) i)) (λ i. inr i)
-      (or-cases (eqb (dim t c) (topDim t)) (covered t c)
-      (not-or (live t c) (eqb (dim t c) (topDim t) || covered t c) (live-says t c v) e))
+      let h = or-else (not (live t c)) (eqb (dim t c) (topDim t) || covered t c) e (ap not (live-says t c v)) in
+      ⊎-elim inl (λ i. inr (or-else (eqb (dim t c) (topDim t)) (covered t c) h (ne-eqb (dim t c) (topDim t) i)))
+      (same-or-not (dim t c) (topDim t))
 
   over-says : (c : ℕ) → (Live t c → (dim t c ≡ topDim t) ⊎ (covered t c ≡ true)) → overAt c ≡ true
   over-says c h =
       or-not (live t c) (eqb (dim t c) (topDim t) || covered t c)
       (λ e. cases-or (eqb (dim t c) (topDim t)) (covered t c)
-      (⊎-elim (λ i. inl (eq-eqb (dim t c) (topDim t) i)) (λ i. inr i) (h (live-true t c e))))
+      (⊎-elim (λ i. inl (eq-eqb (dim t c) (topDim t) i)) inr (h (live-true t c e))))
 
   pair-true : (u : ℕ) → pairAt u ≡ true → Live t u → suc (dim t u) ≡ topDim t → wings t (topDim t) u ≤ 2
   pair-true u e v i =
       leb-true (wings t (topDim t) u) 2
-      (not-or (isBelow u) (leb (wings t (topDim t) u) 2)
-      (and-both (live t u) (eqb (suc (dim t u)) (topDim t)) (live-says t u v) (eq-eqb (suc (dim t u)) (topDim t) i)) e)
+      (or-else (not (isBelow u)) (leb (wings t (topDim t) u) 2) e
+      (ap not (and-both (live t u) (eqb (suc (dim t u)) (topDim t)) (live-says t u v) (eq-eqb (suc (dim t u)) (topDim t) i))))
 
   pair-says : (u : ℕ) → (Live t u → suc (dim t u) ≡ topDim t → wings t (topDim t) u ≤ 2) → pairAt u ≡ true
   pair-says u h =
@@ -100,16 +91,16 @@ module _ (t : List ℕ) where
       (all-says pairAt (cellsOf t) (λ u h. pair-says u (s .pairs u))))
 
   -- no live cell exceeds the largest dimension
-  pub top-bounds : (c : ℕ) → Live t c → dim t c ≤ topDim t
+  top-bounds : (c : ℕ) → Live t c → dim t c ≤ topDim t
   unfolding topDim
   top-bounds c v = largest-bounds t (cellsOf t) c (v .inside) (live-says t c v)
 
   -- and one has it where there is a live cell
-  pub top-cell : someLive ≡ true → (c : ℕ) × (Live t c) × (dim t c ≡ topDim t)
+  top-cell : someLive ≡ true → (c : ℕ) × (Live t c) × (dim t c ≡ topDim t)
   unfolding topDim
   top-cell e = let a = largest-attained t (cellsOf t) e in (a .cell, live-true t (a .cell) (a .living), a .level)
 
-  pub some-live : (c : ℕ) → Live t c → someLive ≡ true
+  some-live : (c : ℕ) → Live t c → someLive ≡ true
   some-live c v = someHas-at (live t) (cellsOf t) c (v .inside) (live-says t c v)
 
 -- The way up.
@@ -135,7 +126,7 @@ module _ (t : List ℕ) (valid : Valid t) (n : ℕ) where
   reached-over (through {s} j r h) =
       inr (over-covered t (face t s j) (record { cell = s; place = j; living = reached-live r; used-place = h; names = refl }))
 
-pub is-sheet-says : (t : List ℕ) → Valid t → isSheet t ≡ true → IsSheet t (topDim t)
+is-sheet-says : (t : List ℕ) → Valid t → isSheet t ≡ true → IsSheet t (topDim t)
 is-sheet-says t v e =
     let s = sheet-tests t e in
     let w = top-cell t (s .living) in
@@ -149,7 +140,7 @@ is-sheet-says t v e =
     }
 
 -- the dimension of a sheet is the largest one
-pub sheet-dimension : (t : List ℕ) (n : ℕ) → IsSheet t n → n ≡ topDim t
+sheet-dimension : (t : List ℕ) (n : ℕ) → IsSheet t n → n ≡ topDim t
 sheet-dimension t n s =
     let w = top-cell t (some-live t (s .cell) (s .living)) in
     omega (arith, top-bounds t (s .cell) (s .living), s .level, s .largest (w .0) (w .1), w .2)
@@ -158,11 +149,11 @@ sheet-passes : (t : List ℕ) (n : ℕ) → Valid t → IsSheet t n → n ≡ to
 sheet-passes t n v s e =
     record {
       living = some-live t (s .cell) (s .living);
-      over = λ c a. ⊎-elim (λ i. inl (i ∙ e)) (λ i. inr i) (reached-over t v n (s .reached c a));
+      over = λ c a. ⊎-elim (λ i. inl (i ∙ e)) inr (reached-over t v n (s .reached c a));
       pairs = λ u a i. subst (λ m. wings t m u ≤ 2) e (s .two-wings u a (e ∙ sym i));
     }
 
-pub sheet-is-sheet : (t : List ℕ) → Valid t → (n : ℕ) → IsSheet t n → (isSheet t ≡ true) × (n ≡ topDim t)
+sheet-is-sheet : (t : List ℕ) → Valid t → (n : ℕ) → IsSheet t n → (isSheet t ≡ true) × (n ≡ topDim t)
 sheet-is-sheet t v n s =
     let e : n ≡ topDim t = sheet-dimension t n s in
     (tests-sheet t (sheet-passes t n v s e), e)

@@ -1,17 +1,16 @@
 -- How many n-cells have a cell as a face: the count goes cell by cell, and it is the number of cells over an (n−1)-cell.
 -- What carries it: in a valid table a cell over u lies one dimension above u. Assumes nothing.
 use mathlib.Core.Path.{_≡_, refl, sym, _∙_}
-use mathlib.Core.Bool.{Bool, true, false, _&&_}
+use mathlib.Core.Bool.{Bool, true, false, _&&_, and-false}
 use mathlib.Core.List.{List}
 use mathlib.Core.Logic.{⊎-elim}
-use Prim.Native.Nat.{ℕ, zero, suc, _+_, _≤_, _<_}
+use Prim.Native.Nat.{ℕ, zero, suc, _≤_, _<_}
 use native.Mathlib.Omega.{arith}
 use borrow.Author.Tests.{eq-eqb}
 use lib.Dec.{eqb}
 use Rattle.counting.specs.Counting.{howMany, someHas}
 use Rattle.table.proofs.Cases.{true-or-false}
 use Rattle.counting.proofs.Counting.{howMany-strict, someHas-each, someHas-one}
-use Rattle.table.specs.Kind.{pick}
 use Rattle.table.specs.Table.{cellsOf, dim, live, Valid}
 use Rattle.table.proofs.Records.{live-says}
 use Rattle.sheet.specs.Sheet.{hasFace, wings, covered}
@@ -37,30 +36,17 @@ howMany-some f n h =
     ⊎-elim (someHas-one f n) (λ e. absurd (omega (arith, howMany-none f n (someHas-each f n e)))) (true-or-false (someHas f n))
 
 -- whether c is an n-cell that has u as a face
-abbrev pub isWing : List ℕ → ℕ → ℕ → ℕ → Bool
+abbrev isWing : List ℕ → ℕ → ℕ → ℕ → Bool
 isWing t n u c = (live t c && eqb (dim t c) n) && hasFace t c u
-
--- one cell more is one wing more where it is an n-cell that has the face, however often
-pub wings-one-more : (t : List ℕ) (n u c : ℕ) → howMany (isWing t n u) (suc c) ≡ howMany (isWing t n u) c + pick (isWing t n u c) 1 0
-unfolding howMany
-wings-one-more t n u c = refl
-
-pub wings-are : (t : List ℕ) (n u : ℕ) → wings t n u ≡ howMany (isWing t n u) (cellsOf t)
-unfolding wings
-wings-are t n u = refl
-
-and-false : (a b : Bool) → b ≡ false → (a && b) ≡ b
-and-false true b e = refl
-and-false false b e = sym e
 
 module _ (t : List ℕ) where
   -- every cell over an (n−1)-cell is an n-cell
   wing-is-side : Valid t → (n u c : ℕ) → c < cellsOf t → n ≡ suc (dim t u) → isWing t n u c ≡ hasFace t c u
-  wing-is-side v n u c h e = go (hasFace t c u) refl
-    where
-      go : (b : Bool) → hasFace t c u ≡ b → ((live t c && eqb (dim t c) n) && hasFace t c u) ≡ hasFace t c u
-      go true i = rw (live-says t c (side-live t c u h i), eq-eqb (dim t c) n (side-dim t v c u h i ∙ sym e))
-      go false i = and-false (live t c && eqb (dim t c) n) (hasFace t c u) i
+  wing-is-side v n u c h e =
+      ⊎-elim
+      (λ i. rw (live-says t c (side-live t c u h i), eq-eqb (dim t c) n (side-dim t v c u h i ∙ sym e)))
+      (λ i. rw i (and-false (live t c && eqb (dim t c) n)))
+      (true-or-false (hasFace t c u))
 
   pub wings-are-sides : Valid t → (n u : ℕ) → n ≡ suc (dim t u) → wings t n u ≡ sidesBelow t u (cellsOf t)
   unfolding wings sidesBelow

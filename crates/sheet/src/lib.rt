@@ -23,9 +23,8 @@ fn named_below(t: &[u16], c: usize, f: u16, j: usize) -> bool
     requires { ⌜ (c < cellsOf (now t)) × (j ≤ faces) ⌝ }
     ensures { λ r. ⌜ r ≡ namedBelow (now (t .entry)) c f j ⌝ }
 {
-    let at = c * Table::WORDS;
     for l in 0..j {
-        if t[at + (1 + l)] == f {
+        if Table::face(t, c, l) == f {
             return true;
         }
     }
@@ -37,10 +36,9 @@ fn count_cell(t: &[u16], c: usize, sides: &mut [u16])
     requires { ⌜ (Valid (now t)) × (c < cellsOf (now t)) × (Counted (now t) (now sides) c) ⌝ }
     ensures { λ _. ⌜ Counted (now (t .entry)) (now (sides .exit)) (c + 1) ⌝ }
 {
-    let at = c * Table::WORDS;
-    let used = Table::used(t[at]);
+    let used = Table::used(Table::dim(t, c));
     for j in 0..used {
-        let f = t[at + (1 + j)];
+        let f = Table::face(t, c, j);
         if !named_below(t, c, f, j) {
             let u = f as usize;
             sides[u] = sides[u] + 1;
@@ -54,11 +52,11 @@ fn count_sides(t: &[u16], sides: &mut [u16]) -> u16
     requires { ⌜ (Valid (now t)) × (Counted (now t) (now sides) 0) ⌝ }
     ensures { λ r. ⌜ (r ≡ levelsBelow (now (t .entry)) (cellsOf (now (t .entry)))) × (Counted (now (t .entry)) (now (sides .exit)) (cellsOf (now (t .entry)))) ⌝ }
 {
-    let n = t.len() / Table::WORDS;
+    let n = Table::room(t);
     let mut l: u16 = 0;
     for c in 0..n {
         count_cell(t, c, sides);
-        let p = t[c * Table::WORDS];
+        let p = Table::dim(t, c);
         if p <= Table::TOP {
             if p >= l {
                 l = p + 1;
@@ -92,9 +90,9 @@ fn all_pass(t: &[u16], l: u16, sides: &[u16]) -> bool
     requires { ⌜ Counted (now t) (now sides) (cellsOf (now t)) ⌝ }
     ensures { λ r. ⌜ r ≡ allPass (now (t .entry)) l (now (sides .entry)) ⌝ }
 {
-    let n = t.len() / Table::WORDS;
+    let n = Table::room(t);
     for c in 0..n {
-        if !passes(t[c * Table::WORDS], l, sides[c]) {
+        if !passes(Table::dim(t, c), l, sides[c]) {
             return false;
         }
     }

@@ -1,7 +1,6 @@
 -- `sheet::all_pass` meets its contract. The invariant: every cell below c passes. The measure: what is left of the range.
 -- Assumes nothing.
 use borrow.Author.Needs.{needs}
-use mathlib.Core.Path.{refl}
 use Prim.Native.Nat.{_-_, _≤_}
 use native.Mathlib.Omega.{arith}
 use Rattle.sheet.proofs.Passing.{passed, passed-none, passed-more, passed-stops, passed-all}
@@ -14,29 +13,30 @@ Inv-loop t l sides n c₀ c = (c ≤ n) × passed t sides l c
 abbrev μ-loop : tie.MeasureT-loop
 μ-loop t l sides n c₀ c = n - c
 
+room-requires : tie.Need-room-requires Inv-loop μ-loop
+room-requires c κs = search needs
+
 loop-holds : tie.Need-loop-holds Inv-loop μ-loop
-loop-holds c = (omega arith, passed-none (c .before .before .args .t .now) (c .before .before .args .sides .now) (c .before .before .args .l))
+loop-holds c = let a = c .before .before .before .args in (omega arith, passed-none (a .t .now) (a .sides .now) (a .l))
+
+dim-requires : tie.Need-dim-requires Inv-loop μ-loop
+dim-requires c κs = search needs
 
 mul-passes : tie.Need-mul-passes Inv-loop μ-loop
 mul-passes c = search needs
 
-mul-passes-2 : tie.Need-mul-passes-2 Inv-loop μ-loop
-mul-passes-2 c = search needs
-
 shared-slice-read-passes : tie.Need-shared-slice-read-passes Inv-loop μ-loop
 shared-slice-read-passes c = search needs
-
-mul-passes-3 : tie.Need-mul-passes-3 Inv-loop μ-loop
-mul-passes-3 c = search needs
-
-shared-slice-read-passes-2 : tie.Need-shared-slice-read-passes-2 Inv-loop μ-loop
-shared-slice-read-passes-2 c = search needs
 
 passes-requires : tie.Need-passes-requires Inv-loop μ-loop
 passes-requires c κs = search needs
 
 returns : tie.Need-returns Inv-loop μ-loop
-returns c = let a = c .before .before .before .before .before .before .before .before .args in passed-stops (a .t .now) (a .sides .now) (a .l) _ _ _ refl (c .before .before .before .before .loop-test .taken) (c .before .passes .ensures) (c .if1 .taken)
+returns c =
+    let d = c .before .before .before in
+    let r = d .before .before .before in
+    let a = r .before .before .before .args in
+    passed-stops (a .t .now) (a .sides .now) (a .l) _ _ _ _ (r .room .ensures) (d .before .loop-test .taken) (d .dim .ensures) (c .before .passes .ensures) (c .if1 .taken)
 
 add-c : tie.Need-add-c Inv-loop μ-loop
 add-c c = search needs
@@ -45,10 +45,17 @@ loop-less : tie.Need-loop-less Inv-loop μ-loop
 loop-less c = search needs
 
 loop-again : tie.Need-loop-again Inv-loop μ-loop
-loop-again c = let a = c .before .before .before .before .before .before .before .before .args in (omega arith, passed-more (a .t .now) (a .sides .now) (a .l) _ _ (c .before .before .before .before .before .loop .inv .1) (c .before .passes .ensures) (c .if1 .left))
+loop-again c =
+    let d = c .before .before .before in
+    let l = d .before .before in
+    let a = l .before .before .before .before .args in
+    (omega arith, passed-more (a .t .now) (a .sides .now) (a .l) _ _ _ (l .loop .inv .1) (d .dim .ensures) (c .before .passes .ensures) (c .if1 .left))
 
 returns-2 : tie.Need-returns-2 Inv-loop μ-loop
-returns-2 c = let a = c .before .before .before .before .args in passed-all (a .t .now) (a .sides .now) (a .l) _ _ refl (c .before .loop .inv .0) (c .loop-test .left) (c .before .loop .inv .1)
+returns-2 c =
+    let l = c .before in
+    let a = l .before .before .before .before .args in
+    passed-all (a .t .now) (a .sides .now) (a .l) _ _ (l .before .room .ensures) (l .loop .inv .0) (c .loop-test .left) (l .loop .inv .1)
 
 pub all-pass-spec : {M : Type 1} → statement M
 all-pass-spec =
@@ -56,12 +63,11 @@ all-pass-spec =
     (tie.spec
     Inv-loop
     μ-loop
+    room-requires
     loop-holds
+    dim-requires
     mul-passes
-    mul-passes-2
     shared-slice-read-passes
-    mul-passes-3
-    shared-slice-read-passes-2
     passes-requires
     returns
     add-c

@@ -15,25 +15,22 @@ use Rattle.sheet.proofs.count_sides.Tie as tie
 
 abbrev Inv-loop : tie.InvT-loop
 Inv-loop t sides₀ n l₀ c₀ sides l c =
-    (c ≤ n) × (length sides ≡ length sides₀) × (Counted t sides c) × (l ≡ levelsBelow t c) × (l ≤ faces)
+    (c ≤ n) × (length sides ≡ length sides₀) × (Counted t sides c) × ((l ≡ levelsBelow t c) × (l ≤ faces))
 
 abbrev μ-loop : tie.MeasureT-loop
 μ-loop t sides₀ n l₀ c₀ sides l c = n - c
 
+room-requires : tie.Need-room-requires Inv-loop μ-loop
+room-requires c κs = search needs
+
 loop-holds : tie.Need-loop-holds Inv-loop μ-loop
-loop-holds c = (omega arith, refl, c .before .before .pre .1, sym (levels-zero _), omega arith)
+loop-holds c = (omega arith, refl, c .before .before .before .pre .1, (sym (levels-zero _), omega arith))
 
 count-cell-requires : tie.Need-count-cell-requires Inv-loop μ-loop
 count-cell-requires c κs = search needs
 
-mul-p : tie.Need-mul-p Inv-loop μ-loop
-mul-p c = search needs
-
-mul-p-2 : tie.Need-mul-p-2 Inv-loop μ-loop
-mul-p-2 c = search needs
-
-shared-slice-read-p : tie.Need-shared-slice-read-p Inv-loop μ-loop
-shared-slice-read-p c = search needs
+dim-requires : tie.Need-dim-requires Inv-loop μ-loop
+dim-requires c κs = search needs
 
 add-l : tie.Need-add-l Inv-loop μ-loop
 add-l c = search needs
@@ -46,18 +43,20 @@ loop-less c = search needs
 
 loop-again : tie.Need-loop-again Inv-loop μ-loop
 loop-again c =
-    let t = c .before .before .before .before .before .before .before .before .before .before .args .t .now in
-    let h = c .before .before .before .before .before .before .loop-test .taken in
-    let i = c .before .before .before .before .before .before .before .loop .inv in
-    let k = c .before .before .before .before .count-cell in
-    let w =
-    ⊎-elim
-    (λ w. turn-higher t _ _ _ h (i .3) (w .0 .taken) (w .1 .taken) (w .2))
-    (⊎-elim
-    (λ w. turn-lower t _ _ _ h (i .3) (i .4) (w .0 .taken) (w .1 .left) (w .2))
-    (λ w. turn-free t _ _ _ (i .3) (i .4) (w .0 .left) (w .1)))
-    (c .if1 .came) in
-    (omega arith, k .kept .1 .1 .0 ∙ i .1, k .ensures, w .0, w .1)
+    let k = c .before .before .before .before in
+    let l = k .before .before .before in
+    let i = l .loop .inv in
+    let d = c .before .dim .ensures in (
+      omega arith,
+      k .count-cell .kept .1 .1 .0 ∙ i .1,
+      k .count-cell .ensures,
+      ⊎-elim
+          (λ w. turn-higher _ _ _ _ _ (omega arith) (i .3 .0) (i .3 .1) d (w .0 .taken) (w .1 .taken) (w .2))
+          (⊎-elim
+          (λ w. turn-lower _ _ _ _ _ (omega arith) (i .3 .0) (i .3 .1) d (w .0 .taken) (w .1 .left) (w .2))
+          (λ w. turn-free _ _ _ _ _ (omega arith) (i .3 .0) (i .3 .1) d (w .0 .left) (w .1)))
+          (c .if1 .came),
+    )
 
 same-length : tie.Need-same-length Inv-loop μ-loop
 same-length c = search needs
@@ -65,8 +64,9 @@ same-length c = search needs
 returns : tie.Need-returns Inv-loop μ-loop
 returns c =
     let i = c .before .loop .inv in
+    let n = c .before .before .room .ensures in
     let l = c .loop-test .left in
-    (levels-all _ _ _ _ refl (i .0) l (i .3), counted-all _ _ _ _ refl (i .0) l (i .2))
+    (levels-all _ _ _ _ n (i .0) l (i .3 .0), counted-all _ _ _ _ n (i .0) l (i .2))
 
 pub count-sides-spec : {M : Type 1} → statement M
 count-sides-spec =
@@ -74,11 +74,10 @@ count-sides-spec =
     (tie.spec
     Inv-loop
     μ-loop
+    room-requires
     loop-holds
     count-cell-requires
-    mul-p
-    mul-p-2
-    shared-slice-read-p
+    dim-requires
     add-l
     add-c
     loop-less

@@ -11,31 +11,19 @@ use Rattle.sheet.proofs.named_below.Statement.{statement}
 use Rattle.sheet.proofs.named_below.Tie as tie
 
 abbrev Inv-loop : tie.InvT-loop
-Inv-loop t c f j at l₀ l = (l ≤ j) × (namedBelow t c f l ≡ false)
+Inv-loop t c f j l₀ l = (l ≤ j) × (namedBelow t c f l ≡ false)
 
 abbrev μ-loop : tie.MeasureT-loop
-μ-loop t c f j at l₀ l = j - l
-
-mul-at : tie.Need-mul-at Inv-loop μ-loop
-mul-at c = search needs
+μ-loop t c f j l₀ l = j - l
 
 loop-holds : tie.Need-loop-holds Inv-loop μ-loop
 loop-holds c = (omega arith, named-none _ _ _)
 
-add-if1 : tie.Need-add-if1 Inv-loop μ-loop
-add-if1 c = search needs
-
-add-if1-2 : tie.Need-add-if1-2 Inv-loop μ-loop
-add-if1-2 c = search needs
-
-mul-if1 : tie.Need-mul-if1 Inv-loop μ-loop
-mul-if1 c = search needs
-
-shared-slice-read-if1 : tie.Need-shared-slice-read-if1 Inv-loop μ-loop
-shared-slice-read-if1 c = search needs
+face-requires : tie.Need-face-requires Inv-loop μ-loop
+face-requires c κs = search needs
 
 returns : tie.Need-returns Inv-loop μ-loop
-returns c = sym (named-at (c .before .before .before .before .args .t .now) _ _ _ _ (c .before .before .loop-test .taken) (c .if1 .taken))
+returns c = sym (named-at _ _ _ _ _ (c .before .before .loop-test .taken) (sym (c .before .face .ensures) ∙ c .if1 .taken))
 
 add-l : tie.Need-add-l Inv-loop μ-loop
 add-l c = search needs
@@ -44,28 +32,16 @@ loop-less : tie.Need-loop-less Inv-loop μ-loop
 loop-less c = search needs
 
 loop-again : tie.Need-loop-again Inv-loop μ-loop
-loop-again c = (omega arith, named-other (c .before .before .before .before .args .t .now) _ _ _ (c .if1 .left) ∙ c .before .before .before .loop .inv .1)
+loop-again c =
+    (omega arith, named-other _ _ _ _ (λ e. c .if1 .left (c .before .face .ensures ∙ e)) ∙ c .before .before .before .loop .inv .1)
 
 returns-2 : tie.Need-returns-2 Inv-loop μ-loop
 returns-2 c =
-    let a = c .before .before .args in
+    let a = c .before .before .before .args in
     let e : c .before .loop .l ≡ a .j = omega arith in
     sym (sym (ap (namedBelow (a .t .now) (a .c) (a .f)) e) ∙ c .before .loop .inv .1)
 
 pub named-below-spec : {M : Type 1} → statement M
 named-below-spec =
     tie.close
-    (tie.spec
-    Inv-loop
-    μ-loop
-    mul-at
-    loop-holds
-    add-if1
-    add-if1-2
-    mul-if1
-    shared-slice-read-if1
-    returns
-    add-l
-    loop-less
-    loop-again
-    returns-2)
+    (tie.spec Inv-loop μ-loop loop-holds face-requires returns add-l loop-less loop-again returns-2)
