@@ -18,7 +18,7 @@ use Rattle.table.specs.Words.{tableOf}
 use Rattle.table.proofs.Words.{length-tableOf, dim-tableOf, face-tableOf, table-by-records}
 use Rattle.counting.specs.Counting.{howMany}
 use Rattle.cone.specs.Cone.{free, apexOf, coneOf, baseOf, newCells, coneFace, given, coned}
-use Rattle.cone.specs.Record.{Stored}
+use Rattle.table.specs.Stores.{Stored}
 use Rattle.table.proofs.Cases.{below-or-not}
 use Rattle.counting.proofs.Counting.{howMany-zero, howMany-yes-more, howMany-no-more, same-rank}
 use Rattle.cone.proofs.Acceptance.{Accepts}

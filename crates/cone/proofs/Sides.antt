@@ -12,7 +12,7 @@ use lib.ListN.{getD}
 use lib.Dec.{ltb, eqb}
 use Rattle.table.specs.Kind.{capacity, top, faces, freeMark, pick, used}
 use Rattle.table.specs.Table.{dim, face, facesOf}
-use Rattle.cone.specs.Record.{Stored}
+use Rattle.table.specs.Stores.{Stored}
 use Rattle.cone.specs.Parts.{overFace}
 use Rattle.table.proofs.Cases.{below-or-not}
 use Rattle.cone.proofs.Stores.{seven, seven-at, face-at}

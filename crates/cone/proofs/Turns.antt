@@ -10,7 +10,7 @@ use Rattle.bitset.specs.Bits.{member}
 use Rattle.table.specs.Kind.{capacity, top, faces, width, freeMark, used}
 use Rattle.table.specs.Table.{cellsOf, dim, face}
 use Rattle.cone.specs.Cone.{apexOf, coneOf, coneFace, coned}
-use Rattle.cone.specs.Record.{Stored}
+use Rattle.table.specs.Stores.{Stored}
 use Rattle.cone.specs.Parts.{overFace, Coneable, Ready}
 use Rattle.table.proofs.Records.{live-says}
 use Rattle.cone.proofs.Acceptance.{Accepts, cone-accepted}

@@ -1,3 +1,2 @@
 pub mod Cone
-pub mod Record
 pub mod Parts

@@ -9,7 +9,6 @@ ghost use Rattle.cone.specs.Parts.{earlyGrounds};
 mod marks;
 mod numbers;
 mod raising;
-mod record;
 
 use table::Named;
 use table::Refusal;

@@ -7,9 +7,8 @@ ghost use lib.Dec.{ltb};
 ghost use Rattle.table.specs.Kind.{capacity, faces, pick};
 ghost use Rattle.table.specs.Table.{cellsOf, dim as dimOf, face as faceOf};
 ghost use Rattle.cone.specs.Cone.{coned};
-ghost use Rattle.cone.specs.Record.{Stored};
+ghost use Rattle.table.specs.Stores.{Stored};
 ghost use Rattle.cone.specs.Parts.{overFace, Coneable, Ready};
-use crate::record;
 use table::Table;
 
 // Writes the numbers of the cones over the first `used` cells of f into the first face words of record c.
@@ -25,7 +24,7 @@ fn put_sides(
 {
     let mut j = 0;
     while j < used {
-        record::put_face(t, c, j, numbers[f[j] as usize]);
+        Table::put_face(t, c, j, numbers[f[j] as usize]);
         j += 1;
     }
 }
@@ -41,9 +40,9 @@ fn put_cone(t: &mut [u16], s: usize, apex: u16, numbers: &[u16; Table::CAPACITY]
     let used = Table::used(p);
     let c = numbers[s] as usize;
     let free = Table::FREE;
-    record::put(t, c, p + 1, [apex, free, free, free, free, free, free]);
+    Table::put(t, c, p + 1, [apex, free, free, free, free, free, free]);
     put_sides(t, c, used, f, numbers);
-    record::put_face(t, c, p as usize + 1, s as u16);
+    Table::put_face(t, c, p as usize + 1, s as u16);
 }
 
 // Writes every new cell.
@@ -59,5 +58,5 @@ pub fn raise(t: &mut [u16], marks: &[u64], apex: u16, numbers: &[u16; Table::CAP
         }
         s += 1;
     }
-    record::put(t, apex as usize, 0, [Table::FREE; Table::FACES]);
+    Table::put(t, apex as usize, 0, [Table::FREE; Table::FACES]);
 }
