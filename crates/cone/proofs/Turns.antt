@@ -1,28 +1,29 @@
 -- The turns of the loop that writes the cones, and the apex after it: the table is the old one with the cones of the marked cells
 -- below s. Assumes nothing.
-use mathlib.Core.Path.{_≡_, refl, sym, ap, _∙_}
-use mathlib.Core.Bool.{Bool, true, false}
+use mathlib.Core.Path.{_≡_, refl, ap, _∙_}
+use mathlib.Core.Bool.{true, false}
 use mathlib.Core.List.{List}
 use Prim.Native.Nat.{ℕ, suc, _+_, _/_, _≤_, _<_}
 use native.Mathlib.Omega.{arith}
-use lib.ListN.{length, getD}
+use lib.ListN.{length, getD, replicate, getD-replicate}
 use Rattle.bitset.specs.Bits.{member}
 use Rattle.table.specs.Kind.{capacity, top, faces, width, freeMark, used}
 use Rattle.table.specs.Table.{cellsOf, dim, face}
-use Rattle.cone.specs.Cone.{apexOf, coneOf, coneFace, coned}
 use Rattle.table.specs.Stores.{Stored}
-use Rattle.cone.specs.Parts.{overFace, Coneable, Ready}
 use Rattle.table.proofs.Records.{live-says}
+use Rattle.counting.specs.Counting.{howMany}
+use Rattle.counting.proofs.Counting.{howMany-zero, howMany-no-more}
+use Rattle.cone.specs.Cone.{apexOf, coneOf, coneFace, coned}
+use Rattle.cone.specs.Parts.{overFace, faceBy, Coneable, Ready}
 use Rattle.cone.proofs.Acceptance.{Accepts, cone-accepted}
-use Rattle.cone.proofs.GivenNumbers.{free-inside, apex-is-free}
-use Rattle.cone.proofs.Sides.{used-side, used-below}
-use Rattle.cone.proofs.Stores.{seven, seven-at}
-use Rattle.cone.proofs.Building.{partly, written, partly-none, partly-same, written-none, written-live, written-kept, old-dim, old-face, cone-inside, cone-written, apex-written}
+use Rattle.cone.proofs.GivenNumbers.{free-inside, apex-is-free, cone-is-free}
+use Rattle.cone.proofs.Sides.{used-most, used-side}
+use Rattle.cone.proofs.Building.{partly, partly-none, old-dim, old-face, conesTo, live-kept, no-cones, cone-written, apex-written}
 
 pub record Raised (t marks u : List ℕ) (s : ℕ) : Type 0 where
   pub passed : s ≤ cellsOf t
   pub size : length u ≡ length t
-  pub state : u ≡ partly t marks (written t marks s)
+  pub state : u ≡ partly t marks (conesTo t marks (1 + howMany (member marks) s))
 
 module _ (t marks ns : List ℕ) (apex : ℕ) (ready : Ready t marks apex ns) where
   a : Accepts t marks
@@ -33,37 +34,36 @@ module _ (t marks ns : List ℕ) (apex : ℕ) (ready : Ready t marks apex ns) wh
       record {
         passed = omega arith;
         size = refl;
-        state = partly-none t marks (written t marks 0) (a .valid .sized .whole) (λ c h. written-none t marks c);
+        state =
+            partly-none t marks (conesTo t marks (1 + howMany (member marks) 0)) (a .valid .sized .whole)
+            (no-cones t marks (howMany (member marks) 0) (howMany-zero (member marks)));
       }
 
   module _ (u : List ℕ) (s : ℕ) (so-far : Raised t marks u s) where
     cells-kept : cellsOf u ≡ cellsOf t
     cells-kept = ap (λ (k : ℕ). k / width) (so-far .size)
 
-    module _ (turn : s < cellsOf t) (b : Bool) (asked : b ≡ member marks s) where
-      module _ (yes : b ≡ true) where
-        marked : member marks s ≡ true
-        marked = sym asked ∙ yes
+    module _ (turn : s < cellsOf t) where
+      module _ (marked : member marks s ≡ true) where
+        s-kept : conesTo t marks (1 + howMany (member marks) s) s ≡ false
+        s-kept = live-kept t marks (1 + howMany (member marks) s) s (live-says t s (a .marked-live s marked))
 
         dim-kept : dim u s ≡ dim t s
         dim-kept =
             ap (λ (l : List ℕ). dim l s) (so-far .state)
-            ∙ old-dim t marks (written t marks s) s turn (written-live t marks s s (live-says t s (a .marked-live s marked)))
+            ∙ old-dim t marks (conesTo t marks (1 + howMany (member marks) s)) s turn s-kept
 
         face-kept : (j : ℕ) → j < faces → face u s j ≡ face t s j
         face-kept j h =
             ap (λ (l : List ℕ). face l s j) (so-far .state)
-            ∙ old-face t marks (written t marks s) s j turn h (written-live t marks s s (live-says t s (a .marked-live s marked)))
+            ∙ old-face t marks (conesTo t marks (1 + howMany (member marks) s)) s j turn h s-kept
 
         low : dim t s < top
         low = a .below-top s marked
 
-        side-marked : (j : ℕ) → j < used (dim t s) → member marks (face t s j) ≡ true
-        side-marked j h = a .closed s j marked h
-
         side-inside : (j : ℕ) → j < used (dim t s) → face u s j < capacity
         side-inside j h =
-            omega (arith, face-kept j (omega (arith, used-below (dim t s) low)), a .marked-live (face t s j) (side-marked j h) .inside, a .valid .sized .room)
+            omega (arith, face-kept j (omega (arith, used-most (dim t s) low, low)), a .marked-live (face t s j) (a .closed s j marked h) .inside, a .valid .sized .room)
 
         pub raised-coneable : Coneable u ns s
         raised-coneable =
@@ -73,7 +73,8 @@ module _ (t marks ns : List ℕ) (apex : ℕ) (ready : Ready t marks apex ns) wh
               low = omega (arith, dim-kept, low);
               size = ready .size;
               sides = λ j h. side-inside j (rw (dim-kept) at h);
-              place = omega (arith, ready .numbers s marked, cone-inside t marks a s marked, cells-kept);
+              place =
+                  omega (arith, ready .numbers s marked, free-inside t (coneOf t marks s) (cone-is-free t marks a s marked), cells-kept);
             }
 
         -- the faces that were written are those of the rule
@@ -81,42 +82,38 @@ module _ (t marks ns : List ℕ) (apex : ℕ) (ready : Ready t marks apex ns) wh
         unfolding overFace coneFace
         over-is-cone-face j = refl
 
-        sides-right : (j : ℕ) → j < faces → overFace (dim u s) s apex (λ l. getD ns (face u s l) 0) j ≡ coneFace t marks s j
-        sides-right j h =
+        faces-right : (j : ℕ) → j < faces → faceBy u ns apex s j ≡ coneFace t marks s j
+        faces-right j h =
             ap (λ (p : ℕ). overFace p s apex (λ l. getD ns (face u s l) 0) j) dim-kept
-            ∙ ap (λ (a : ℕ). overFace (dim t s) s a (λ l. getD ns (face u s l) 0) j) (ready .is-apex)
+            ∙ ap (λ (x : ℕ). overFace (dim t s) s x (λ l. getD ns (face u s l) 0) j) (ready .is-apex)
             ∙ used-side (dim t s) s (apexOf t) (λ l. getD ns (face u s l) 0) (λ l. coneOf t marks (face t s l)) j low
-            (λ i. ap (λ (c : ℕ). getD ns c 0) (face-kept j h) ∙ ready .numbers (face t s j) (side-marked j i))
+            (λ i. ap (λ (c : ℕ). getD ns c 0) (face-kept j h) ∙ ready .numbers (face t s j) (a .closed s j marked i))
             ∙ over-is-cone-face j
 
-        pub raised-more : (u′ : List ℕ) → Stored (getD ns s 0) (suc (dim u s)) (overFace (dim u s) s apex (λ l. getD ns (face u s l) 0)) u u′ → Raised t marks u′ (s + 1)
+        pub raised-more : (u′ : List ℕ) → Stored (getD ns s 0) (suc (dim u s)) (faceBy u ns apex s) u u′ → Raised t marks u′ (s + 1)
         raised-more u′ store =
             record {
               passed = omega arith;
               size = store .size ∙ so-far .size;
               state =
-                  cone-written t marks a s marked u u′ (getD ns s 0) (suc (dim u s))
-                  (overFace (dim u s) s apex (λ l. getD ns (face u s l) 0))
-                  (ready .numbers s marked) (so-far .state) store (ap suc dim-kept) sides-right;
+                  cone-written t marks a s marked u u′ (suc (dim u s)) (faceBy u ns apex s) (so-far .state)
+                  (rw (ready .numbers s marked) at store) (ap suc dim-kept) faces-right;
             }
 
-      pub raised-kept : b ≡ false → (u′ : List ℕ) → u′ ≡ u → Raised t marks u′ (s + 1)
+      pub raised-kept : member marks s ≡ false → (u′ : List ℕ) → u′ ≡ u → Raised t marks u′ (s + 1)
       raised-kept e u′ same =
           record {
             passed = omega arith;
             size = ap length same ∙ so-far .size;
-            state =
-                same
-                ∙ so-far .state
-                ∙ partly-same t marks (written t marks s) (written t marks (s + 1)) (λ c h. written-kept t marks s c (sym asked ∙ e));
+            state = rw (same, howMany-no-more (member marks) s e) (so-far .state);
           }
 
     pub apex-fits : apex < cellsOf u
     apex-fits = omega (arith, free-inside t (apexOf t) (apex-is-free t marks a), ready .is-apex, cells-kept)
 
-    pub raised-ends : cellsOf t ≤ s → (u′ : List ℕ) → Stored apex 0 (λ j. getD (seven (λ k. freeMark)) j 0) u u′ → u′ ≡ coned t marks
+    pub raised-ends : cellsOf t ≤ s → (u′ : List ℕ) → Stored apex 0 (λ j. getD (replicate faces freeMark) j 0) u u′ → u′ ≡ coned t marks
     raised-ends h u′ store =
-        let e : s ≡ cellsOf t = omega arith in
-        apex-written t marks a u u′ apex 0 (λ j. getD (seven (λ k. freeMark)) j 0) (ready .is-apex)
-        (so-far .state ∙ ap (λ (k : ℕ). partly t marks (written t marks k)) e)
-        store refl (seven-at (λ k. freeMark))
+        let e : s ≡ cellsOf t = omega (arith, so-far .passed) in
+        apex-written t marks a u u′ (λ j. getD (replicate faces freeMark) j 0)
+        (so-far .state ∙ ap (λ (k : ℕ). partly t marks (conesTo t marks (1 + howMany (member marks) k))) e)
+        (rw (ready .is-apex) at store) (λ j l. getD-replicate faces j freeMark 0 l)

@@ -45,6 +45,10 @@ unfoldable pub overFace : ℕ → ℕ → ℕ → (ℕ → ℕ) → ℕ → ℕ
 overFace p s apex side j =
     pick (eqb j (suc p)) s (pick (ltb (suc p) j) freeMark (pick (eqb p 0) apex (side j)))
 
+-- face j of the cone over cell s, with the cones of the faces of s by their numbers ns
+abbrev pub faceBy : List ℕ → List ℕ → ℕ → ℕ → ℕ → ℕ
+faceBy t ns apex s = overFace (dim t s) s apex (λ j. getD ns (face t s j) 0)
+
 -- cell s has room for a cone above it, its faces have an entry in ns, and its own entry lies inside the table
 pub record Coneable (t ns : List ℕ) (s : ℕ) : Type 0 where
   pub inside : s < cellsOf t

@@ -1,0 +1,132 @@
+-- `cone_faces` meets its contract. The invariant: the first j sides are laid out. The measure: the sides left. Assumes nothing.
+use mathlib.Core.Path.{_≡_, refl, sym, ap, _∙_}
+use Prim.Native.Nat.{_-_, _≤_}
+use borrow.Author.Needs.{needs}
+use native.Mathlib.Omega.{arith}
+use lib.ListN.{length, getD, length-set}
+use Rattle.table.specs.Kind.{faces, used}
+use Rattle.table.specs.Table.{face}
+use Rattle.table.proofs.Records.{faces-at}
+use Rattle.cone.proofs.Sides.{side-entry, Sided, sided-none, sided-more, sided-done}
+use Rattle.cone.proofs.raising.cone_faces.Statement.{statement}
+use Rattle.cone.proofs.raising.cone_faces.Tie as tie
+
+abbrev Inv-loop : tie.InvT-loop
+Inv-loop t s apex numbers p k f r₀ j₀ r j =
+    (j ≤ k) × (length r ≡ faces) × Sided (λ l. getD numbers (face t s l) 0) apex j r
+
+abbrev μ-loop : tie.MeasureT-loop
+μ-loop t s apex numbers p k f r₀ j₀ r j = k - j
+
+dim-requires : tie.Need-dim-requires Inv-loop μ-loop
+dim-requires c κs = search needs
+
+used-requires : tie.Need-used-requires Inv-loop μ-loop
+used-requires c κs = search needs
+
+faces-requires : tie.Need-faces-requires Inv-loop μ-loop
+faces-requires c κs = search needs
+
+array-write-r : tie.Need-array-write-r Inv-loop μ-loop
+array-write-r c = search needs
+
+loop-holds : tie.Need-loop-holds Inv-loop μ-loop
+loop-holds c = (search needs, refl, sided-none _ _)
+
+mul-r : tie.Need-mul-r Inv-loop μ-loop
+mul-r c = search needs
+
+array-read-r : tie.Need-array-read-r Inv-loop μ-loop
+array-read-r c = search needs
+
+cast-r : tie.Need-cast-r Inv-loop μ-loop
+cast-r c = search needs
+
+mul-r-2 : tie.Need-mul-r-2 Inv-loop μ-loop
+mul-r-2 c =
+    let b = c .before .before in
+    let a = b .before .before .before .before in
+    omega (arith, side-entry _ _ _ _ _ _ (c .before .loop .j) (a .pre) (b .before .before .dim .ensures) (b .before .used .ensures .0) (b .faces .ensures) (b .before .used .ensures .1) (c .loop-test .taken))
+
+element-copy-out-r : tie.Need-element-copy-out-r Inv-loop μ-loop
+element-copy-out-r c =
+    let b = c .before .before in
+    let a = b .before .before .before .before in
+    side-entry _ _ _ _ _ _ (c .before .loop .j) (a .pre) (b .before .before .dim .ensures) (b .before .used .ensures .0) (b .faces .ensures) (b .before .used .ensures .1) (c .loop-test .taken)
+
+mul-r-3 : tie.Need-mul-r-3 Inv-loop μ-loop
+mul-r-3 c = search needs
+
+array-write-r-2 : tie.Need-array-write-r-2 Inv-loop μ-loop
+array-write-r-2 c = search needs
+
+add-j : tie.Need-add-j Inv-loop μ-loop
+add-j c = search needs
+
+loop-less : tie.Need-loop-less Inv-loop μ-loop
+loop-less c = search needs
+
+loop-again : tie.Need-loop-again Inv-loop μ-loop
+loop-again c =
+    let l = c .before .before .loop in
+    let b = c .before .before .before in
+    let a = b .before .before .before .before .args in (
+      search needs,
+      length-set (l .r) (l .j) _ ∙ l .inv .1,
+      sided-more (λ k. getD (a .numbers .now) (face (a .t .now) (a .s) k) 0) (a .apex) (l .r) (l .j) _ (omega arith)
+          (ap (λ k. getD (a .numbers .now) k 0) (faces-at (a .t .now) (a .s) (b .faces .result) (b .faces .ensures) (l .j) (omega arith)))
+          (l .inv .2),
+    )
+
+cast-r-2 : tie.Need-cast-r-2 Inv-loop μ-loop
+cast-r-2 c = search needs
+
+cast-r-3 : tie.Need-cast-r-3 Inv-loop μ-loop
+cast-r-3 c = search needs
+
+add-r : tie.Need-add-r Inv-loop μ-loop
+add-r c = search needs
+
+mul-r-4 : tie.Need-mul-r-4 Inv-loop μ-loop
+mul-r-4 c = search needs
+
+array-write-r-3 : tie.Need-array-write-r-3 Inv-loop μ-loop
+array-write-r-3 c = search needs
+
+returns : tie.Need-returns Inv-loop μ-loop
+returns c =
+    let l = c .before .loop in
+    let b = c .before .before .before in
+    let a = b .before .before .before in
+    let e : l .j ≡ used (b .before .dim .result) = omega arith in
+    rw (sym (b .before .dim .ensures))
+    (sided-done (λ k. getD (a .args .numbers .now) (face (a .args .t .now) (a .args .s) k) 0) (a .args .apex) (b .before .dim .result) (a .args .s) (l .r)
+    (omega arith) (l .inv .1) (rw e at (l .inv .2)))
+
+pub cone-faces-spec : {M : Type 1} → statement M
+cone-faces-spec =
+    tie.close
+    (tie.spec
+    Inv-loop
+    μ-loop
+    dim-requires
+    used-requires
+    faces-requires
+    array-write-r
+    loop-holds
+    mul-r
+    array-read-r
+    cast-r
+    mul-r-2
+    element-copy-out-r
+    mul-r-3
+    array-write-r-2
+    add-j
+    loop-less
+    loop-again
+    cast-r-2
+    cast-r-3
+    add-r
+    mul-r-4
+    array-write-r-3
+    returns)
