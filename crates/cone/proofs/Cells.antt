@@ -1,4 +1,4 @@
--- Live and free numbers by the two tests that decide them: inside the table, and a dimension or none. Assumes nothing.
+-- Live numbers by the two tests that decide them: inside the table, and a dimension or none. Assumes nothing.
 use mathlib.Core.Path.{_≡_}
 use mathlib.Core.Bool.{true, false}
 use mathlib.Core.List.{List}
@@ -7,8 +7,6 @@ use borrow.Author.Tests.{lt-ltb, le-ltb, lt-leb}
 use Rattle.table.specs.Kind.{top}
 use Rattle.table.specs.Table.{cellsOf, dim, live}
 use Rattle.table.proofs.Records.{live-says}
-use Rattle.cone.specs.Cone.{free}
-use Rattle.cone.proofs.GivenNumbers.{not-live-free, live-not-free}
 
 module _ (t : List ℕ) (c : ℕ) where
   pub low-live : c < cellsOf t → dim t c ≤ top → live t c ≡ true
@@ -21,9 +19,3 @@ module _ (t : List ℕ) (c : ℕ) where
   pub outside-not-live : cellsOf t ≤ c → live t c ≡ false
   unfolding live
   outside-not-live h = rw (le-ltb c (cellsOf t) h)
-
-  pub high-free : c < cellsOf t → top < dim t c → free t c ≡ true
-  high-free h l = not-live-free t c h (high-not-live h l)
-
-  pub low-not-free : c < cellsOf t → dim t c ≤ top → free t c ≡ false
-  low-not-free h l = live-not-free t c (low-live h l)

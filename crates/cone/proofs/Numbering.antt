@@ -1,199 +1,147 @@
--- The turns of the two passes that fix the new numbers: the free numbers listed in rising order, and the entry that each marked
--- cell is given. Assumes nothing.
+-- The pass that fixes the new numbers: the first free number from one on, and the number that each marked cell is given.
+-- What carries it: a free number after the k-th is the one of rank k + 1, and where there is no k-th there is none after it.
+-- Assumes nothing.
 use mathlib.Core.Path.{_≡_, sym, ap, _∙_}
-use mathlib.Core.Logic.{_⊎_, inl, inr}
-use mathlib.Core.Bool.{Bool, true, false, false≢true}
+use mathlib.Core.Logic.{⊎-elim}
+use mathlib.Core.Bool.{Bool, true, false, not, false≢true}
 use mathlib.Core.List.{List}
 use Prim.Native.Nat.{ℕ, _+_, _≤_, _<_}
-use native.Mathlib.Nat.{eq-or-lt-of-le}
 use native.Mathlib.Omega.{arith}
+use borrow.Author.Tests.{lt-ltb, le-ltb}
 use lib.ListN.{length, getD, set, length-set}
 use lib.Seq.{getD-set-same, getD-set-other}
+use lib.Dec.{ltb}
 use Rattle.bitset.specs.Bits.{member}
-use Rattle.table.specs.Kind.{capacity, top}
-use Rattle.table.specs.Table.{cellsOf, dim}
+use Rattle.table.specs.Kind.{capacity}
+use Rattle.table.specs.Table.{cellsOf, live}
+use Rattle.table.proofs.Cases.{below-or-not, same-or-other}
 use Rattle.counting.specs.Counting.{howMany, nth}
-use Rattle.cone.specs.Cone.{free}
-use Rattle.cone.specs.Parts.{Frees, Given}
-use Rattle.counting.proofs.Counting.{rank-nth, howMany-zero, howMany-yes-more, howMany-no-more}
-use Rattle.cone.proofs.Cells.{high-free, low-not-free}
+use Rattle.counting.proofs.Counting.{howMany-zero, howMany-mono, howMany-yes-more, howMany-no-more, nth-none, nth-below, nth-has, nth-rank, rank-nth}
+use Rattle.cone.specs.Cone.{free, apexOf, coneOf, newCells, noRoom}
+use Rattle.cone.specs.Parts.{freeFrom, Given}
+use Rattle.cone.proofs.GivenNumbers.{not-live-free, live-not-free}
 
--- a number below k + 1 is k or below k
-last-or-below : (i k : ℕ) → i < k + 1 → (i ≡ k) ⊎ (i < k)
-last-or-below i k h = eq-or-lt-of-le (omega arith)
+-- ---- the search for a free number
 
-module _ (f : ℕ → Bool) (n : ℕ) where
-  -- the first r entries of fs are the first r numbers that have f
-  abbrev Listed : List ℕ → ℕ → Type 0
-  Listed fs r = (k : ℕ) → k < r → getD fs k 0 ≡ nth f n k
+-- no number from `from` to c is free
+abbrev pub NoneTo : List ℕ → ℕ → ℕ → Type 0
+NoneTo t from c = howMany (free t) c ≡ howMany (free t) from
 
-  listed-none : (fs : List ℕ) → Listed fs 0
-  listed-none fs k h = absurd (omega arith)
+module _ (t : List ℕ) (from c : ℕ) (none : NoneTo t from c) where
+  pub free-passed : live t c ≡ true → NoneTo t from (c + 1)
+  free-passed e = howMany-no-more (free t) c (live-not-free t c e) ∙ none
 
-  listed-more : (fs : List ℕ) (r c : ℕ) → c < n → f c ≡ true → r ≡ howMany f c → r < length fs → Listed fs r → Listed (set fs r c) (r + 1)
-  listed-more fs r c h e i l all k b = go (last-or-below k r b)
-    where
-      go : (k ≡ r) ⊎ (k < r) → getD (set fs r c) k 0 ≡ nth f n k
-      go (inl q) =
-          ap (λ (m : ℕ). getD (set fs r c) m 0) q
-          ∙ getD-set-same fs r c 0 l
-          ∙ sym (ap (nth f n) (q ∙ i) ∙ rank-nth f n c h e)
-      go (inr q) = getD-set-other fs r k c 0 (λ w. omega arith) ∙ all k q
+  pub free-found : c < cellsOf t → live t c ≡ false → c ≡ freeFrom t from
+  free-found h e = sym (ap (nth (free t) (cellsOf t)) (sym none) ∙ rank-nth (free t) (cellsOf t) c h (not-live-free t c h e))
 
--- The free numbers below c are listed: r of them so far.
-pub record Listing (t fs : List ℕ) (n r c : ℕ) : Type 0 where
-  pub passed : c ≤ n
+  pub free-lacks : cellsOf t ≤ c → cellsOf t ≡ freeFrom t from
+  free-lacks h =
+      sym (nth-none (free t) (cellsOf t) (howMany (free t) from) (omega (arith, howMany-mono (free t) (cellsOf t) c h, none)))
+
+pub first-free : (t : List ℕ) (r : ℕ) → r ≡ freeFrom t 0 → r ≡ apexOf t
+unfolding apexOf
+first-free t r e = e ∙ ap (nth (free t) (cellsOf t)) (howMany-zero (free t))
+
+nth-most : (f : ℕ → Bool) (n k : ℕ) → nth f n k ≤ n
+nth-most f n k =
+    ⊎-elim (λ h. omega (arith, nth-below f n k h)) (λ h. omega (arith, nth-none f n k h)) (below-or-not k (howMany f n))
+
+-- the number after the k-th
+next-nth : (f : ℕ → Bool) (n k : ℕ) → nth f n (howMany f (nth f n k + 1)) ≡ nth f n (1 + k)
+next-nth f n k =
+    ⊎-elim
+    (λ h.
+    let e : howMany f (nth f n k + 1) ≡ 1 + k = omega (arith, howMany-yes-more f (nth f n k) (nth-has f n k h), nth-rank f n k h) in
+    ap (nth f n) e)
+    (λ h.
+    let m = nth-none f n k h in
+    nth-none f n (howMany f (nth f n k + 1)) (rw m (howMany-mono f n (n + 1) (omega arith)))
+    ∙ sym (nth-none f n (1 + k) (omega arith)))
+    (below-or-not k (howMany f n))
+
+-- ---- the pass over the marked cells
+
+-- the marked cells below s have their numbers, and `last` was given last
+pub record Giving (t marks ns : List ℕ) (n last s : ℕ) : Type 0 where
+  pub passed : s ≤ n
   pub cells : n ≡ cellsOf t
   pub few : n ≤ capacity
-  pub size : length fs ≡ capacity
-  pub below : r ≤ c
-  pub count : r ≡ howMany (free t) c
-  pub listed : Listed (free t) n fs r
-
-pub listing-starts : (t fs : List ℕ) (n : ℕ) → n ≡ cellsOf t → n ≤ capacity → length fs ≡ capacity → Listing t fs n 0 0
-listing-starts t fs n e f s =
-    record {
-      passed = omega arith;
-      cells = e;
-      few = f;
-      size = s;
-      below = omega arith;
-      count = sym (howMany-zero (free t));
-      listed = listed-none (free t) n fs;
-    }
-
-module _ (t fs fs′ : List ℕ) (n r r′ c p : ℕ) (so-far : Listing t fs n r c) (turn : c < n) (read : p ≡ dim t c) where
-  pub listing-takes : top < p → fs′ ≡ set fs r c → r′ ≡ r + 1 → Listing t fs′ n r′ (c + 1)
-  listing-takes h e i =
-      let free-here : free t c ≡ true = high-free t c (omega (arith, so-far .cells)) (omega arith) in
-      rw (e, i)
-      record {
-        passed = omega arith;
-        cells = so-far .cells;
-        few = so-far .few;
-        size = length-set fs r c ∙ so-far .size;
-        below = omega (arith, so-far .below);
-        count = sym (howMany-yes-more (free t) c free-here ∙ ap (λ (k : ℕ). k + 1) (sym (so-far .count)));
-        listed =
-            listed-more (free t) n fs r c turn free-here (so-far .count) (omega (arith, so-far .below, so-far .few, so-far .size)) (so-far .listed);
-      }
-
-  pub listing-passes : p ≤ top → fs′ ≡ fs → r′ ≡ r → Listing t fs′ n r′ (c + 1)
-  listing-passes h e i =
-      rw (e, i)
-      record {
-        passed = omega arith;
-        cells = so-far .cells;
-        few = so-far .few;
-        size = so-far .size;
-        below = omega (arith, so-far .below);
-        count =
-            so-far .count
-            ∙ sym (howMany-no-more (free t) c (low-not-free t c (omega (arith, so-far .cells)) (omega arith)));
-        listed = so-far .listed;
-      }
-
-pub listing-ends : (t fs : List ℕ) (n r c : ℕ) → Listing t fs n r c → n ≤ c → Frees t r fs
-listing-ends t fs n r c l h =
-    let e : c ≡ cellsOf t = omega arith in
-    record {
-      count = l .count ∙ ap (howMany (free t)) e;
-      few = omega arith;
-      size = l .size;
-      at = λ k b. l .listed k b ∙ ap (λ (m : ℕ). nth (free t) m k) (l .cells);
-    }
-
-module _ (m : ℕ → Bool) (fs : List ℕ) (count : ℕ) where
-  -- each marked cell below s has the entry after those of the marked cells below it, as far as the entries go
-  abbrev GivenOut : List ℕ → ℕ → Type 0
-  GivenOut ns s = (c : ℕ) → c < s → m c ≡ true → 1 + howMany m c < count → getD ns c 0 ≡ getD fs (1 + howMany m c) 0
-
-  given-none : (ns : List ℕ) → GivenOut ns 0
-  given-none ns c h e l = absurd (omega arith)
-
-  -- s is not marked, or there is no entry for it
-  given-kept : (ns : List ℕ) (s : ℕ) → (m s ≡ true → 1 + howMany m s < count → ⊥) → GivenOut ns s → GivenOut ns (s + 1)
-  given-kept ns s never all c h e l = go (last-or-below c s h)
-    where
-      go : (c ≡ s) ⊎ (c < s) → getD ns c 0 ≡ getD fs (1 + howMany m c) 0
-      go (inl q) =
-          let e′ : m s ≡ true = rw q at e in
-          let l′ : 1 + howMany m s < count = rw q at l in
-          absurd (never e′ l′)
-      go (inr q) = all c q e l
-
-  given-more : (ns : List ℕ) (s r : ℕ) → r ≡ 1 + howMany m s → s < length ns → GivenOut ns s → GivenOut (set ns s (getD fs r 0)) (s + 1)
-  given-more ns s r i b all c h e l = go (last-or-below c s h)
-    where
-      go : (c ≡ s) ⊎ (c < s) → getD (set ns s (getD fs r 0)) c 0 ≡ getD fs (1 + howMany m c) 0
-      go (inl q) =
-          let k : r ≡ 1 + howMany m c = i ∙ ap (λ (x : ℕ). 1 + howMany m x) (sym q) in
-          ap (λ (x : ℕ). getD (set ns s (getD fs r 0)) x 0) q
-          ∙ getD-set-same ns s (getD fs r 0) 0 b
-          ∙ ap (λ (x : ℕ). getD fs x 0) k
-      go (inr q) = getD-set-other ns s c (getD fs r 0) 0 (λ w. omega arith) ∙ all c q e l
-
--- The marked cells below s have their numbers: r of them so far.
-pub record Giving (marks fs ns : List ℕ) (n count r s : ℕ) : Type 0 where
-  pub passed : s ≤ n
   pub size : length ns ≡ capacity
-  pub below : r ≤ s
-  pub marked : r ≡ howMany (member marks) s
-  pub given : GivenOut (member marks) fs count ns s
+  pub low : last ≤ n
+  pub is-last : last ≡ nth (free t) (cellsOf t) (howMany (member marks) s)
+  pub given : (c : ℕ) → c < s → member marks c ≡ true → getD ns c 0 ≡ coneOf t marks c
 
-pub giving-starts : (marks fs ns : List ℕ) (n count : ℕ) → length ns ≡ capacity → Giving marks fs ns n count 0 0
-giving-starts marks fs ns n count e =
+pub giving-starts : (t marks ns : List ℕ) (n apex : ℕ) → n ≡ cellsOf t → cellsOf t ≤ capacity → apex ≡ apexOf t → length ns ≡ capacity → Giving t marks ns n apex 0
+unfolding apexOf
+giving-starts t marks ns n apex cells few is-apex size =
+    let first : apex ≡ nth (free t) (cellsOf t) (howMany (member marks) 0) = is-apex ∙ ap (nth (free t) (cellsOf t)) (sym (howMany-zero (member marks))) in
     record {
       passed = omega arith;
-      size = e;
-      below = omega arith;
-      marked = sym (howMany-zero (member marks));
-      given = given-none (member marks) fs count ns;
+      cells = cells;
+      few = omega arith;
+      size = size;
+      low = omega (arith, nth-most (free t) (cellsOf t) 0);
+      is-last = first;
+      given = λ c h. absurd (omega arith);
     }
 
-module _ (marks fs ns ns′ : List ℕ) (n count r r′ s : ℕ) (b : Bool) (so-far : Giving marks fs ns n count r s) (turn : s < n) (few : n ≤ capacity) (asked : b ≡ member marks s) where
-  one-more : b ≡ true → r′ ≡ r + 1 → r′ ≡ howMany (member marks) (s + 1)
-  one-more y i = i ∙ sym (howMany-yes-more (member marks) s (sym asked ∙ y) ∙ ap (λ (k : ℕ). k + 1) (sym (so-far .marked)))
-
-  pub giving-gives : b ≡ true → r′ ≡ r + 1 → ns′ ≡ set ns s (getD fs (r + 1) 0) → Giving marks fs ns′ n count r′ (s + 1)
-  giving-gives y i e =
-      rw e
+module _ (t marks ns : List ℕ) (n last s : ℕ) (so-far : Giving t marks ns n last s) (turn : s < n) where
+  pub giving-gives : (r : ℕ) → member marks s ≡ true → (r ≡ freeFrom t (last + 1)) × (r ≤ cellsOf t) → Giving t marks (set ns s r) n r (s + 1)
+  unfolding coneOf
+  giving-gives r marked next =
+      let k = howMany (member marks) s in
+      let here : r ≡ nth (free t) (cellsOf t) (1 + k) =
+      next .0
+      ∙ ap (λ (x : ℕ). freeFrom t (x + 1)) (so-far .is-last)
+      ∙ next-nth (free t) (cellsOf t) k in
       record {
         passed = omega arith;
-        size = length-set ns s (getD fs (r + 1) 0) ∙ so-far .size;
-        below = omega (arith, so-far .below);
-        marked = one-more y i;
-        given = given-more (member marks) fs count ns s (r + 1) (omega (arith, so-far .marked)) (omega (arith, so-far .size)) (so-far .given);
+        cells = so-far .cells;
+        few = so-far .few;
+        size = length-set ns s r ∙ so-far .size;
+        low = omega (arith, next .1, so-far .cells);
+        is-last = here ∙ ap (nth (free t) (cellsOf t)) (omega (arith, howMany-yes-more (member marks) s marked));
+        given = λ c h m.
+            same-or-other (λ x. x < s + 1 → member marks x ≡ true → getD (set ns s r) x 0 ≡ coneOf t marks x) c s
+            (λ l i. getD-set-same ns s r 0 (omega (arith, so-far .few, so-far .size)) ∙ here)
+            (λ ne l i. getD-set-other ns s c r 0 ne ∙ so-far .given c (omega (arith, ne)) i)
+            h
+            m;
       }
 
-  pub giving-out : b ≡ true → r′ ≡ r + 1 → count ≤ r + 1 → ns′ ≡ ns → Giving marks fs ns′ n count r′ (s + 1)
-  giving-out y i h e =
-      rw e
+  pub giving-passes : member marks s ≡ false → Giving t marks ns n last (s + 1)
+  giving-passes unmarked =
       record {
         passed = omega arith;
+        cells = so-far .cells;
+        few = so-far .few;
         size = so-far .size;
-        below = omega (arith, so-far .below);
-        marked = one-more y i;
-        given = given-kept (member marks) fs count ns s (λ m l. omega (arith, so-far .marked)) (so-far .given);
+        low = so-far .low;
+        is-last = rw (howMany-no-more (member marks) s unmarked) (so-far .is-last);
+        given = λ c h m.
+            same-or-other (λ x. x < s + 1 → member marks x ≡ true → getD ns x 0 ≡ coneOf t marks x) c s
+            (λ l i. absurd (false≢true (sym unmarked ∙ i)))
+            (λ ne l i. so-far .given c (omega (arith, ne)) i)
+            h
+            m;
       }
 
-  pub giving-passes : b ≡ false → r′ ≡ r → ns′ ≡ ns → Giving marks fs ns′ n count r′ (s + 1)
-  giving-passes y i e =
-      rw (e, i)
-      record {
-        passed = omega arith;
-        size = so-far .size;
-        below = omega (arith, so-far .below);
-        marked = so-far .marked ∙ sym (howMany-no-more (member marks) s (sym asked ∙ y));
-        given = given-kept (member marks) fs count ns s (λ m l. false≢true (sym y ∙ asked ∙ m)) (so-far .given);
-      }
-
-pub giving-ends : (marks fs ns : List ℕ) (n count r s : ℕ) → Giving marks fs ns n count r s → n ≤ s → n ≤ capacity → Given marks n fs count r ns
-giving-ends marks fs ns n count r s g h f =
-    let e : s ≡ n = omega arith in
+pub giving-ends : (t marks ns : List ℕ) (n last s : ℕ) → Giving t marks ns n last s → n ≤ s → Given t marks (ltb last n) ns
+unfolding noRoom newCells
+giving-ends t marks ns n last s g h =
+    let e : s ≡ cellsOf t = omega (arith, g .passed, g .cells) in
+    let k : ℕ = howMany (member marks) (cellsOf t) in
+    let l : last ≡ nth (free t) (cellsOf t) k = g .is-last ∙ ap (λ (x : ℕ). nth (free t) (cellsOf t) (howMany (member marks) x)) e in
     record {
-      marked = g .marked ∙ ap (howMany (member marks)) e;
-      few = omega arith;
+      room =
+          ⊎-elim
+          (λ b.
+          lt-ltb last n (omega (arith, nth-below (free t) (cellsOf t) k b, g .cells))
+          ∙ sym (ap not (le-ltb (howMany (free t) (cellsOf t)) (1 + k) (omega arith))))
+          (λ b.
+          le-ltb last n (omega (arith, nth-none (free t) (cellsOf t) k b, g .cells))
+          ∙ sym (ap not (lt-ltb (howMany (free t) (cellsOf t)) (1 + k) (omega arith))))
+          (below-or-not k (howMany (free t) (cellsOf t)));
       size = g .size;
-      at = λ c b. g .given c (omega arith);
+      at = λ c b. g .given c (omega (arith, g .cells));
     }

@@ -4,12 +4,12 @@
 use mathlib.Core.Path.{_≡_, refl, sym, ap, _∙_}
 use mathlib.Core.Bool.{Bool, true, _&&_, and-true, and-false}
 use mathlib.Core.List.{List, [], _∷_, _++_}
-use Prim.Native.Nat.{ℕ, _+_, _≤_, _<_}
+use Prim.Native.Nat.{ℕ, _≤_}
 use native.Mathlib.Omega.{arith}
-use borrow.Author.Tests.{lt-ltb, le-ltb, eq-eqb, ne-eqb, not-false}
-use lib.ListN.{length, getD}
+use borrow.Author.Tests.{eq-eqb, ne-eqb, not-true, not-false}
+use lib.ListN.{length}
 use lib.Dec.{eqb}
-use Rattle.bitset.specs.Bits.{wordsFor, member}
+use Rattle.bitset.specs.Bits.{wordsFor}
 use Rattle.table.specs.Kind.{capacity, pick}
 use Rattle.table.specs.Table.{cellsOf}
 use Rattle.table.specs.Audit.{sized, auditGrounds}
@@ -22,10 +22,8 @@ use Rattle.table.specs.declared.Named.the-variants.{Cell, NoCell}
 use Rattle.audit.proofs.Sizes.{sized-is-sized}
 use Rattle.audit.proofs.Scans.{and-left}
 use Rattle.audit.proofs.Valid.{audit-accepts-iff-valid}
-use Rattle.counting.specs.Counting.{howMany}
-use Rattle.cone.specs.Cone.{free, apexOf, coneOf, newCells, coned, noRoom, coneVerdict, coneAnswer, coneLeaves}
-use Rattle.cone.specs.Parts.{Frees, Given, Ready, markGrounds, earlyGrounds}
-use Rattle.counting.proofs.Counting.{howMany-strict}
+use Rattle.cone.specs.Cone.{apexOf, coned, noRoom, coneVerdict, coneAnswer, coneLeaves}
+use Rattle.cone.specs.Parts.{Given, Ready, markGrounds, earlyGrounds}
 use Rattle.audit.proofs.Grounds.{accepted-none-applies, refused-first, accepted-first}
 use Rattle.cone.proofs.Acceptance.{cone-accepted}
 
@@ -73,42 +71,23 @@ module _ (t marks : List ℕ) where
         (not-false (sized t && eqb (length marks) (wordsFor (cellsOf t))) (accepted-none-applies (earlyGrounds t marks) early .0)))
         .room
 
-    module _ (fs ns : List ℕ) (count r : ℕ) (listed : Frees t count fs) (given : Given marks (cellsOf t) fs count r ns) where
-      new-cells : newCells t marks ≡ 1 + r
-      unfolding newCells
-      new-cells = ap (λ (k : ℕ). 1 + k) (sym (given .marked))
+    module _ (apex : ℕ) (enough : Bool) (ns : List ℕ) (is-apex : apex ≡ apexOf t) (given : Given t marks enough ns) where
+      pub room-lacks : enough ≡ false → Ends (coneAnswer t marks) (coneLeaves t marks) (NoCell NoRoom) t
+      room-lacks e =
+          ends (Refused NoRoom) (only-room ∙ rw (not-false (noRoom t marks) (sym (given .room) ∙ e))) t refl
 
-      pub room-lacks : count ≤ r → Ends (coneAnswer t marks) (coneLeaves t marks) (NoCell NoRoom) t
-      unfolding noRoom
-      room-lacks h =
-          ends (Refused NoRoom)
-          (only-room
-          ∙ ap (λ (b : Bool). pick b (Refused NoRoom) Accepted)
-          (lt-ltb (howMany (free t) (cellsOf t)) (newCells t marks) (omega (arith, listed .count, new-cells))))
-          t
-          refl
-
-      module _ (enough : r < count) where
+      module _ (yes : enough ≡ true) where
         accepted : coneVerdict t marks ≡ Accepted
-        unfolding noRoom
-        accepted =
-            only-room
-            ∙ ap (λ (b : Bool). pick b (Refused NoRoom) Accepted)
-            (le-ltb (howMany (free t) (cellsOf t)) (newCells t marks) (omega (arith, listed .count, new-cells)))
+        accepted = only-room ∙ rw (not-true (noRoom t marks) (sym (given .room) ∙ yes))
 
-        apex-listed : getD fs 0 0 ≡ apexOf t
-        unfolding apexOf
-        apex-listed = listed .at 0 (omega arith)
+        pub ready : Ready t marks apex ns
+        ready =
+            record {
+              accepted = accepted;
+              is-apex = is-apex;
+              size = given .size;
+              numbers = λ s m. given .at s (cone-accepted t marks accepted .marked-live s m .inside) m;
+            }
 
-        number-listed : (s : ℕ) → member marks s ≡ true → getD ns s 0 ≡ coneOf t marks s
-        unfolding coneOf
-        number-listed s m =
-            let inside = cone-accepted t marks accepted .marked-live s m .inside in
-            let k : 1 + howMany (member marks) s < count = omega (arith, given .marked, howMany-strict (member marks) s (cellsOf t) inside m) in
-            given .at s inside m k ∙ listed .at (1 + howMany (member marks) s) k
-
-        pub ready : Ready t marks (getD fs 0 0) ns
-        ready = record { accepted = accepted; is-apex = apex-listed; size = given .size; numbers = number-listed }
-
-        pub room-found : (u : List ℕ) → u ≡ coned t marks → Ends (coneAnswer t marks) (coneLeaves t marks) (Cell (getD fs 0 0)) u
-        room-found u e = rw apex-listed (ends Accepted accepted u e)
+        pub room-found : (u : List ℕ) → u ≡ coned t marks → Ends (coneAnswer t marks) (coneLeaves t marks) (Cell apex) u
+        room-found u e = rw is-apex (ends Accepted accepted u e)

@@ -1,9 +1,9 @@
--- Where the marks end, what the two passes that fix the new numbers leave, and what the writing of the new cells starts from.
+-- Where the marks end, what the pass that fixes the new numbers leaves, and what the writing of the new cells starts from.
 -- A reader need not believe this file: it says what the parts of the call hand to one another.
 use mathlib.Core.Path.{_≡_}
 use mathlib.Core.Bool.{Bool, true, false, _&&_, not}
 use mathlib.Core.List.{List, [], _∷_}
-use Prim.Native.Nat.{ℕ, suc, _+_, _*_, _-_, _≤_, _<_}
+use Prim.Native.Nat.{ℕ, suc, _*_, _-_, _≤_, _<_}
 use lib.ListN.{length, getD}
 use lib.Dec.{eqb, ltb}
 use Rattle.bitset.specs.Bits.{bits, wordsFor, member}
@@ -14,7 +14,7 @@ use Rattle.table.specs.Audit.{sized, onValidity}
 use Rattle.table.specs.Calls.{Ground}
 use Rattle.table.specs.declared.Refusal.the-variants.{Length, NotLive, NotClosed, TopMarked}
 use Rattle.table.specs.declared.Verdict.the-variants.{Accepted}
-use Rattle.cone.specs.Cone.{free, apexOf, coneOf, markedNotLive, notClosed, topMarked, coneVerdict}
+use Rattle.cone.specs.Cone.{free, apexOf, coneOf, markedNotLive, notClosed, topMarked, noRoom, coneVerdict}
 
 -- every mark is below e, and where e is not 0 the number before it is marked
 pub record MarkedBelow (marks : List ℕ) (e : ℕ) : Type 0 where
@@ -26,19 +26,15 @@ pub record MarkedBelow (marks : List ℕ) (e : ℕ) : Type 0 where
 abbrev pub openFace : List ℕ → List ℕ → ℕ → ℕ → Bool
 openFace t marks c j = not (member marks (face t c j))
 
--- fs lists the free numbers of t in rising order, r of them
-pub record Frees (t : List ℕ) (r : ℕ) (fs : List ℕ) : Type 0 where
-  pub count : r ≡ howMany (free t) (cellsOf t)
-  pub few : r ≤ capacity
-  pub size : length fs ≡ capacity
-  pub at : (k : ℕ) → k < r → getD fs k 0 ≡ nth (free t) (cellsOf t) k
+-- the first free number from c on: as many lie below it as below c; N where there is none
+abbrev pub freeFrom : List ℕ → ℕ → ℕ
+freeFrom t c = nth (free t) (cellsOf t) (howMany (free t) c)
 
--- r cells below n are marked, and each has at its place in ns the entry of fs after those of the marked cells below it
-pub record Given (marks : List ℕ) (n : ℕ) (fs : List ℕ) (count r : ℕ) (ns : List ℕ) : Type 0 where
-  pub marked : r ≡ howMany (member marks) n
-  pub few : r ≤ capacity
+-- each marked cell has at its place in ns the number of its cone, and r says whether there are as many free numbers as new cells
+pub record Given (t marks : List ℕ) (r : Bool) (ns : List ℕ) : Type 0 where
+  pub room : r ≡ not (noRoom t marks)
   pub size : length ns ≡ capacity
-  pub at : (s : ℕ) → s < n → member marks s ≡ true → 1 + howMany (member marks) s < count → getD ns s 0 ≡ getD fs (1 + howMany (member marks) s) 0
+  pub at : (s : ℕ) → s < cellsOf t → member marks s ≡ true → getD ns s 0 ≡ coneOf t marks s
 
 -- face j of the cone over the p-cell s: the apex at a point, else side j, then s itself, then nothing
 unfoldable pub overFace : ℕ → ℕ → ℕ → (ℕ → ℕ) → ℕ → ℕ

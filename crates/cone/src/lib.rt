@@ -34,17 +34,14 @@ fn built(t: &mut [u16], marks: &[u64]) -> Named
     requires { ⌜ verdict (earlyGrounds (now t) (now marks)) ≡ Accepted ⌝ }
     ensures { λ r. ⌜ Ends (coneAnswer (now (t .entry)) (now (marks .entry))) (coneLeaves (now (t .entry)) (now (marks .entry))) r (now (t .exit)) ⌝ }
 {
-    let n = t.len() / Table::WORDS;
-    let mut frees = [0u16; Table::CAPACITY];
+    let first = numbers::next_free(t, 0);
     let mut given = [0u16; Table::CAPACITY];
-    let count = numbers::free_numbers(t, &mut frees);
-    let marked = numbers::cone_numbers(marks, n, &frees, count, &mut given);
-    if count <= marked {
-        return Named::NoCell(Refusal::NoRoom);
+    if numbers::cone_numbers(t, marks, first, &mut given) {
+        let apex = first as u16;
+        raising::raise(t, marks, apex, &given);
+        return Named::Cell(apex);
     }
-    let apex = frees[0];
-    raising::raise(t, marks, apex, &given);
-    Named::Cell(apex)
+    Named::NoCell(Refusal::NoRoom)
 }
 
 // Adds a point and a cone over each marked cell. Refused with 1, 2, 3, 7, 8, 9, in that order; then no word changes.

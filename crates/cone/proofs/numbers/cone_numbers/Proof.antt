@@ -1,37 +1,41 @@
 -- `cone_numbers` meets its contract. The invariant: the marked cells below s have their numbers. The measure: the cells not looked
 -- at. Assumes nothing.
-use borrow.Author.Needs.{needs}
-use Prim.Native.Nat.{_-_}
+use mathlib.Core.Path.{sym, _∙_}
 use mathlib.Core.Logic.{⊎-elim}
-use Rattle.cone.proofs.Numbering.{Giving, giving-starts, giving-gives, giving-out, giving-passes, giving-ends}
+use Prim.Native.Nat.{_-_}
+use borrow.Author.Needs.{needs}
+use Rattle.cone.proofs.Numbering.{Giving, giving-starts, giving-gives, giving-passes, giving-ends}
 use Rattle.cone.proofs.numbers.cone_numbers.Statement.{statement}
 use Rattle.cone.proofs.numbers.cone_numbers.Tie as tie
 
 abbrev Inv-loop : tie.InvT-loop
-Inv-loop marks n frees count numbers₀ rank₀ s₀ numbers rank s = Giving marks frees numbers n count rank s
+Inv-loop t marks apex numbers₀ n last₀ s₀ numbers last s = Giving t marks numbers n last s
 
 abbrev μ-loop : tie.MeasureT-loop
-μ-loop marks n frees count numbers₀ rank₀ s₀ numbers rank s = n - s
+μ-loop t marks apex numbers₀ n last₀ s₀ numbers last s = n - s
+
+room-requires : tie.Need-room-requires Inv-loop μ-loop
+room-requires c κs = search needs
 
 loop-holds : tie.Need-loop-holds Inv-loop μ-loop
 loop-holds c =
-    let a = c .before .args in
-    giving-starts (a .marks .now) (a .frees .now) (a .numbers .now) _ _ (c .before .pre .3)
+    let b = c .before .before .before in
+    giving-starts (b .args .t .now) _ _ _ _ (c .room .ensures) (b .pre .0) (b .pre .1) (b .pre .2)
 
 has-requires : tie.Need-has-requires Inv-loop μ-loop
 has-requires c κs = search needs
 
-add-rank : tie.Need-add-rank Inv-loop μ-loop
-add-rank c = search needs
+add-next-free : tie.Need-add-next-free Inv-loop μ-loop
+add-next-free c = search needs
+
+next-free-requires : tie.Need-next-free-requires Inv-loop μ-loop
+next-free-requires c κs = search needs
+
+cast-numbers : tie.Need-cast-numbers Inv-loop μ-loop
+cast-numbers c = search needs
 
 mul-numbers : tie.Need-mul-numbers Inv-loop μ-loop
 mul-numbers c = search needs
-
-element-copy-out-numbers : tie.Need-element-copy-out-numbers Inv-loop μ-loop
-element-copy-out-numbers c = search needs
-
-mul-numbers-2 : tie.Need-mul-numbers-2 Inv-loop μ-loop
-mul-numbers-2 c = search needs
 
 element-write-numbers : tie.Need-element-write-numbers Inv-loop μ-loop
 element-write-numbers c = search needs
@@ -44,24 +48,17 @@ loop-less c = search needs
 
 loop-again : tie.Need-loop-again Inv-loop μ-loop
 loop-again c =
-    let a = c .before .before .before .before .before .args in
     let l = c .before .before .before .loop in
-    let t = c .before .before .loop-test .taken in
-    let e = c .before .has .ensures in
-    let few = c .before .before .before .before .before .pre .0 in
+    let turn = c .before .before .loop-test .taken in
     ⊎-elim
-    (λ w. giving-gives (a .marks .now) (a .frees .now) (l .numbers) (c .if1 .numbers) (a .n) (a .count) (l .rank) (c .if1 .rank) (l .s) _ (l .inv) t few e (w .0 .taken) (w .4) (w .3))
-    (λ w.
-    ⊎-elim
-    (λ v. giving-out (a .marks .now) (a .frees .now) (l .numbers) (c .if1 .numbers) (a .n) (a .count) (l .rank) (c .if1 .rank) (l .s) _ (l .inv) t few e (v .0 .taken) (v .3) (v .1 .left) (v .2))
-    (λ v. giving-passes (a .marks .now) (a .frees .now) (l .numbers) (c .if1 .numbers) (a .n) (a .count) (l .rank) (c .if1 .rank) (l .s) _ (l .inv) t few e (v .0 .left) (v .2) (v .1))
-    w)
+    (λ w. rw (w .2, w .3) (giving-gives _ _ (l .numbers) _ (l .last) (l .s) (l .inv) turn _ (sym (c .before .has .ensures) ∙ w .0 .taken) (w .1 .ensures)))
+    (λ w. rw (w .1, w .2) (giving-passes _ _ (l .numbers) _ (l .last) (l .s) (l .inv) turn (sym (c .before .has .ensures) ∙ w .0 .left)))
     (c .if1 .came)
 
 returns : tie.Need-returns Inv-loop μ-loop
 returns c =
-    let a = c .before .before .before .args in
-    giving-ends (a .marks .now) (a .frees .now) (c .before .loop .numbers) _ _ _ _ (c .before .loop .inv) (c .loop-test .left) (c .before .before .before .pre .0)
+    let l = c .before .loop in
+    giving-ends _ _ (l .numbers) _ (l .last) (l .s) (l .inv) (c .loop-test .left)
 
 pub cone-numbers-spec : {M : Type 1} → statement M
 cone-numbers-spec =
@@ -69,12 +66,13 @@ cone-numbers-spec =
     (tie.spec
     Inv-loop
     μ-loop
+    room-requires
     loop-holds
     has-requires
-    add-rank
+    add-next-free
+    next-free-requires
+    cast-numbers
     mul-numbers
-    element-copy-out-numbers
-    mul-numbers-2
     element-write-numbers
     add-s
     loop-less

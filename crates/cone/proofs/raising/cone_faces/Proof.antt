@@ -42,17 +42,14 @@ array-read-r c = search needs
 cast-r : tie.Need-cast-r Inv-loop μ-loop
 cast-r c = search needs
 
-mul-r-2 : tie.Need-mul-r-2 Inv-loop μ-loop
-mul-r-2 c =
-    let b = c .before .before in
-    let a = b .before .before .before .before in
-    omega (arith, side-entry _ _ _ _ _ _ (c .before .loop .j) (a .pre) (b .before .before .dim .ensures) (b .before .used .ensures .0) (b .faces .ensures) (b .before .used .ensures .1) (c .loop-test .taken))
-
 element-copy-out-r : tie.Need-element-copy-out-r Inv-loop μ-loop
 element-copy-out-r c =
     let b = c .before .before in
     let a = b .before .before .before .before in
     side-entry _ _ _ _ _ _ (c .before .loop .j) (a .pre) (b .before .before .dim .ensures) (b .before .used .ensures .0) (b .faces .ensures) (b .before .used .ensures .1) (c .loop-test .taken)
+
+mul-r-2 : tie.Need-mul-r-2 Inv-loop μ-loop
+mul-r-2 c = omega (arith, element-copy-out-r c)
 
 mul-r-3 : tie.Need-mul-r-3 Inv-loop μ-loop
 mul-r-3 c = search needs
