@@ -74,39 +74,43 @@ pub record Giving (t marks ns : List ℕ) (n last s : ℕ) : Type 0 where
 pub giving-starts : (t marks ns : List ℕ) (n apex : ℕ) → n ≡ cellsOf t → cellsOf t ≤ capacity → apex ≡ apexOf t → length ns ≡ capacity → Giving t marks ns n apex 0
 unfolding apexOf
 giving-starts t marks ns n apex cells few is-apex size =
-    let first : apex ≡ nth (free t) (cellsOf t) (howMany (member marks) 0) = is-apex ∙ ap (nth (free t) (cellsOf t)) (sym (howMany-zero (member marks))) in
     record {
       passed = omega arith;
       cells = cells;
       few = omega arith;
       size = size;
-      low = omega (arith, nth-most (free t) (cellsOf t) 0);
-      is-last = first;
+      low = omega (arith, is-apex, nth-most (free t) (cellsOf t) 0);
+      is-last = is-apex ∙ ap (nth (free t) (cellsOf t)) (sym (howMany-zero (member marks)));
       given = λ c h. absurd (omega arith);
     }
 
+-- what holds below s and at s holds below s + 1
+below-more : (P : ℕ → Type 0) (s : ℕ) → ((c : ℕ) → c < s → P c) → P s → (c : ℕ) → c < s + 1 → P c
+below-more P s all here c h = same-or-other P c s here (λ ne. all c (omega (arith, ne)))
+
 module _ (t marks ns : List ℕ) (n last s : ℕ) (so-far : Giving t marks ns n last s) (turn : s < n) where
+  next-given : freeFrom t (last + 1) ≡ nth (free t) (cellsOf t) (1 + howMany (member marks) s)
+  next-given =
+      ap (λ (x : ℕ). freeFrom t (x + 1)) (so-far .is-last)
+      ∙ next-nth (free t) (cellsOf t) (howMany (member marks) s)
+
   pub giving-gives : (r : ℕ) → member marks s ≡ true → (r ≡ freeFrom t (last + 1)) × (r ≤ cellsOf t) → Giving t marks (set ns s r) n r (s + 1)
   unfolding coneOf
   giving-gives r marked next =
-      let k = howMany (member marks) s in
-      let here : r ≡ nth (free t) (cellsOf t) (1 + k) =
-      next .0
-      ∙ ap (λ (x : ℕ). freeFrom t (x + 1)) (so-far .is-last)
-      ∙ next-nth (free t) (cellsOf t) k in
       record {
         passed = omega arith;
         cells = so-far .cells;
         few = so-far .few;
         size = length-set ns s r ∙ so-far .size;
         low = omega (arith, next .1, so-far .cells);
-        is-last = here ∙ ap (nth (free t) (cellsOf t)) (omega (arith, howMany-yes-more (member marks) s marked));
-        given = λ c h m.
-            same-or-other (λ x. x < s + 1 → member marks x ≡ true → getD (set ns s r) x 0 ≡ coneOf t marks x) c s
-            (λ l i. getD-set-same ns s r 0 (omega (arith, so-far .few, so-far .size)) ∙ here)
-            (λ ne l i. getD-set-other ns s c r 0 ne ∙ so-far .given c (omega (arith, ne)) i)
-            h
-            m;
+        is-last =
+            next .0
+            ∙ next-given
+            ∙ ap (nth (free t) (cellsOf t)) (omega (arith, howMany-yes-more (member marks) s marked));
+        given =
+            below-more (λ c. member marks c ≡ true → getD (set ns s r) c 0 ≡ coneOf t marks c) s
+            (λ c h m. getD-set-other ns s c r 0 (λ e. omega arith) ∙ so-far .given c h m)
+            (λ m. getD-set-same ns s r 0 (omega (arith, so-far .few, so-far .size)) ∙ next .0 ∙ next-given);
       }
 
   pub giving-passes : member marks s ≡ false → Giving t marks ns n last (s + 1)
@@ -118,12 +122,9 @@ module _ (t marks ns : List ℕ) (n last s : ℕ) (so-far : Giving t marks ns n 
         size = so-far .size;
         low = so-far .low;
         is-last = rw (howMany-no-more (member marks) s unmarked) (so-far .is-last);
-        given = λ c h m.
-            same-or-other (λ x. x < s + 1 → member marks x ≡ true → getD ns x 0 ≡ coneOf t marks x) c s
-            (λ l i. absurd (false≢true (sym unmarked ∙ i)))
-            (λ ne l i. so-far .given c (omega (arith, ne)) i)
-            h
-            m;
+        given =
+            below-more (λ c. member marks c ≡ true → getD ns c 0 ≡ coneOf t marks c) s (so-far .given)
+            (λ m. absurd (false≢true (sym unmarked ∙ m)));
       }
 
 pub giving-ends : (t marks ns : List ℕ) (n last s : ℕ) → Giving t marks ns n last s → n ≤ s → Given t marks (ltb last n) ns
