@@ -1,23 +1,25 @@
--- Where the bodies start, from the counts in an array, and that no start passes the longest file.
+-- The counts in an array, where the bodies start by them, and that no start passes the longest file.
 -- What carries it: a start is a sum over the dimensions before it. Assumes nothing.
 use mathlib.Core.Path.{_≡_, sym, ap, ap₂, _∙_}
 use mathlib.Core.List.{List}
 use Prim.Native.Nat.{ℕ, _+_, _*_, _≤_, _<_}
 use native.Mathlib.Omega.{arith}
 use lib.ListN.{length, getD}
-use Rattle.table.specs.Kind.{used}
-use Rattle.table.specs.Table.{Sized}
+use Rattle.table.specs.Table.{cellsOf, Sized}
+use Rattle.counting.specs.Counting.{howMany}
+use Rattle.counting.proofs.Tallies.{Tally, isCellAt}
 use Rattle.sketch.specs.Form.{dimensions, contentsSize, recordSize, bodyStart}
-use Rattle.sketch.specs.Written.{countOf, fileOf}
+use Rattle.sketch.specs.Written.{isCell, countOf, fileOf}
 use Rattle.sketch.proofs.Pieces.{total-cong}
 use Rattle.sketch.proofs.Sizes.{bodyStart-more, bodyStart-grows, length-file, start-fits}
 use Rattle.writer.specs.Put.{Counted, inArray, longest}
 
--- a body's bytes, with the used words as the code has them
-pub size-is : (count u p : ℕ) → u ≡ used p → count * (2 + 2 * u) ≡ count * recordSize p
-size-is count u p e = ap (λ k. count * (2 + 2 * k)) e
+-- the array after the last cell
+pub all-counted : (t counts : List ℕ) (c : ℕ) → c ≡ cellsOf t → Tally dimensions (isCellAt t) c counts → Counted t counts
+unfolding isCell countOf
+all-counted t counts c e h = record { each = λ p l. h .each p l ∙ ap (howMany (isCell t p)) e }
 
-pub starts-agree :
+starts-agree :
     (t counts : List ℕ) → Counted t counts → (p : ℕ) → p ≤ dimensions → bodyStart (inArray counts) p ≡ bodyStart (countOf t) p
 unfolding bodyStart
 starts-agree t counts h p l =
@@ -34,8 +36,8 @@ module _ (t counts : List ℕ) (h : Counted t counts) (p start : ℕ) (l : p < d
   pub next-is : start + getD counts p 0 * recordSize p ≡ bodyStart (countOf t) (p + 1)
   next-is = ap₂ (λ s k. s + k * recordSize p) e (h .each p l) ∙ sym (bodyStart-more (countOf t) p)
 
-  pub next-fits : Sized t → start + getD counts p 0 * recordSize p ≤ longest
-  next-fits s = omega (arith, next-is, start-fits t (p + 1) s)
+  pub next-inside : Sized t → start + getD counts p 0 * recordSize p ≤ longest
+  next-inside s = omega (arith, next-is, start-fits t (p + 1) s)
 
 pub array-fits : (t counts : List ℕ) → Sized t → Counted t counts → bodyStart (inArray counts) dimensions ≤ longest
 array-fits t counts s h = omega (arith, starts-agree t counts h dimensions (omega arith), start-fits t dimensions s)

@@ -42,16 +42,13 @@ fn put_two(target: &mut [u8], at: usize, v: usize) -> usize
     at + 2
 }
 
-// An offset in 4 bytes, the low byte first.
+// An offset in 4 bytes, the low byte first: its low two, then what is above them.
 fn put_four(target: &mut [u8], at: usize, offset: usize) -> usize
     requires { ⌜ at + 4 ≤ length (now target) ⌝ }
     ensures { λ r. ⌜ Put (now (target .entry)) at (four offset) r (now (target .exit)) ⌝ }
 {
-    target[at] = (offset % 256) as u8;
-    target[at + 1] = (offset / 256 % 256) as u8;
-    target[at + 2] = (offset / 65536 % 256) as u8;
-    target[at + 3] = (offset / 16777216 % 256) as u8;
-    at + 4
+    let middle = put_two(target, at, offset);
+    put_two(target, middle, offset / 65536)
 }
 
 // An entry of the contents: the count, then where the body starts.
@@ -87,10 +84,10 @@ fn file_size(counts: [usize; DIMENSIONS]) -> usize
 fn count_cells(t: &[u16]) -> [usize; DIMENSIONS]
     ensures { λ r. ⌜ Counted (now (t .entry)) r ⌝ }
 {
-    let n = t.len() / Table::WORDS;
+    let n = Table::room(t);
     let mut counts = [0; DIMENSIONS];
     for c in 0..n {
-        let p = t[c * Table::WORDS] as usize;
+        let p = Table::dim(t, c) as usize;
         if p < DIMENSIONS {
             counts[p] += 1;
         }
@@ -104,10 +101,11 @@ fn put_contents(t: &[u16], counts: [usize; DIMENSIONS], target: &mut [u8]) -> us
     ensures { λ r. ⌜ Put (now (target .entry)) 0 (contentsOf (now (t .entry))) r (now (target .exit)) ⌝ }
 {
     let mut offset = CONTENTS;
-    let mut end = put_two(target, 0, t.len() / Table::WORDS);
+    let mut end = put_two(target, 0, Table::room(t));
     for p in 0..DIMENSIONS {
-        end = put_entry(target, end, counts[p], offset);
-        offset = next_start(offset, counts[p], p);
+        let count = counts[p];
+        end = put_entry(target, end, count, offset);
+        offset = next_start(offset, count, p);
     }
     end
 }
@@ -117,10 +115,10 @@ fn put_cell(t: &[u16], c: usize, target: &mut [u8], at: usize) -> usize
     requires { ⌜ (c < cellsOf (now t)) × (at + length (cellBytes (now t) c) ≤ length (now target)) ⌝ }
     ensures { λ r. ⌜ Put (now (target .entry)) at (cellBytes (now (t .entry)) c) r (now (target .exit)) ⌝ }
 {
-    let used = Table::used(t[c * Table::WORDS]);
+    let used = Table::used(Table::dim(t, c));
     let mut end = put_two(target, at, c);
     for j in 0..used {
-        end = put_two(target, end, t[c * Table::WORDS + (1 + j)] as usize);
+        end = put_two(target, end, Table::face(t, c, j) as usize);
     }
     end
 }
@@ -130,10 +128,10 @@ fn put_body(t: &[u16], p: usize, target: &mut [u8], at: usize) -> usize
     requires { ⌜ (p ≤ top) × (at + length (bodyOf (now t) p) ≤ length (now target)) ⌝ }
     ensures { λ r. ⌜ Put (now (target .entry)) at (bodyOf (now (t .entry)) p) r (now (target .exit)) ⌝ }
 {
-    let cells = t.len() / Table::WORDS;
+    let cells = Table::room(t);
     let mut end = at;
     for c in 0..cells {
-        if t[c * Table::WORDS] as usize == p {
+        if Table::dim(t, c) as usize == p {
             end = put_cell(t, c, target, end);
         }
     }

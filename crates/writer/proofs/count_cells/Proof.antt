@@ -1,37 +1,33 @@
 -- `writer::count_cells` meets its contract. The invariant: the array counts the cells below c. The measure: the cells left.
 -- Assumes nothing.
-use mathlib.Core.Path.{subst, refl, sym}
+use mathlib.Core.Path.{subst, sym}
 use mathlib.Core.Logic.{⊎-elim}
-use Prim.Native.Nat.{_-_, _*_, _≤_}
+use Prim.Native.Nat.{_-_, _≤_}
 use native.Mathlib.Omega.{arith}
 use borrow.Author.Needs.{needs}
-use Rattle.table.specs.Kind.{width}
-use Rattle.writer.proofs.Tallies.{Tally, tally-none, tally-counted, tally-skipped, tally-most, tally-end}
+use Rattle.counting.proofs.Tallies.{Tally, isCellAt, tally-none, tally-most, cell-counted, free-skipped}
+use Rattle.sketch.specs.Form.{dimensions}
+use Rattle.writer.proofs.Starts.{all-counted}
 use Rattle.writer.proofs.count_cells.Statement.{statement}
 use Rattle.writer.proofs.count_cells.Tie as tie
 
 abbrev Inv-loop : tie.InvT-loop
-Inv-loop t n counts₀ c₀ counts c = (c ≤ n) × Tally t c counts
+Inv-loop t n counts₀ c₀ counts c = (c ≤ n) × Tally dimensions (isCellAt t) c counts
 
 abbrev μ-loop : tie.MeasureT-loop
 μ-loop t n counts₀ c₀ counts c = n - c
 
+room-requires : tie.Need-room-requires Inv-loop μ-loop
+room-requires c κs = search needs
+
 loop-holds : tie.Need-loop-holds Inv-loop μ-loop
-loop-holds c =
-    (omega arith, tally-none _)
+loop-holds c = (omega arith, tally-none _ _)
 
-mul-p : tie.Need-mul-p Inv-loop μ-loop
-mul-p c = search needs
-
-mul-p-2 : tie.Need-mul-p-2 Inv-loop μ-loop
-mul-p-2 c = search needs
-
-shared-slice-read-p : tie.Need-shared-slice-read-p Inv-loop μ-loop
-shared-slice-read-p c = search needs
+dim-requires : tie.Need-dim-requires Inv-loop μ-loop
+dim-requires c κs = search needs
 
 cast-p : tie.Need-cast-p Inv-loop μ-loop
-cast-p c =
-    omega (arith, c .shared-slice-known .given (c .before .before .loop .c * width))
+cast-p c = search needs
 
 mul-counts : tie.Need-mul-counts Inv-loop μ-loop
 mul-counts c = search needs
@@ -40,8 +36,7 @@ array-read-counts : tie.Need-array-read-counts Inv-loop μ-loop
 array-read-counts c = search needs
 
 add-counts : tie.Need-add-counts Inv-loop μ-loop
-add-counts c =
-    omega (arith, tally-most _ _ _ (c .before .before .before .loop .inv .1) _ (c .if1 .taken))
+add-counts c = omega (arith, tally-most (c .before .before .before .loop .inv .1) (c .before .dim .result) (c .if1 .taken))
 
 array-write-counts : tie.Need-array-write-counts Inv-loop μ-loop
 array-write-counts c = search needs
@@ -54,17 +49,17 @@ loop-less c = search needs
 
 loop-again : tie.Need-loop-again Inv-loop μ-loop
 loop-again c =
-    let l = c .before .before .before .loop in (
+    let i = c .before .before .before .loop .inv .1 in
+    let e = c .before .dim .ensures in (
       omega arith,
       ⊎-elim
-          (λ w. subst (Tally _ _) (sym (w .1)) (tally-counted _ _ _ (l .inv .1) _ (c .before .before .loop-test .taken) refl (w .0 .taken)))
-          (λ w. subst (Tally _ _) (sym (w .1)) (tally-skipped _ _ _ (l .inv .1) (w .0 .left)))
+          (λ w. subst (Tally _ _ _) (sym (w .1)) (cell-counted _ _ e i (w .0 .taken) (record { inside = omega arith; low = omega arith })))
+          (λ w. subst (Tally _ _ _) (sym (w .1)) (free-skipped _ _ e i (w .0 .left)))
           (c .if1 .came),
     )
 
 returns : tie.Need-returns Inv-loop μ-loop
-returns c =
-    tally-end _ _ _ (c .before .loop .inv .1) (c .before .loop .inv .0) (c .loop-test .left)
+returns c = all-counted _ _ _ (omega arith) (c .before .loop .inv .1)
 
 pub count-cells-spec : {M : Type 1} → statement M
 count-cells-spec =
@@ -72,10 +67,9 @@ count-cells-spec =
     (tie.spec
     Inv-loop
     μ-loop
+    room-requires
     loop-holds
-    mul-p
-    mul-p-2
-    shared-slice-read-p
+    dim-requires
     cast-p
     mul-counts
     array-read-counts

@@ -1,15 +1,15 @@
 -- `writer::put_body` meets its contract. The invariant: what the cells below c give the body stands there. The measure: the cells
 -- left. Assumes nothing.
+use mathlib.Core.Path.{sym, _∙_}
 use mathlib.Core.Logic.{⊎-elim}
-use Prim.Native.Nat.{_-_, _*_, _≤_}
+use Prim.Native.Nat.{_-_, _≤_, _<_}
 use native.Mathlib.Omega.{arith}
 use borrow.Author.Needs.{needs}
-use Rattle.table.specs.Kind.{width}
+use Rattle.table.specs.Table.{cellsOf}
 use Rattle.sketch.specs.Form.{pieces}
 use Rattle.writer.specs.Put.{Put}
-use Rattle.writer.proofs.Pasting.{put-no-piece, put-here}
-use Rattle.writer.proofs.Bodies.{record-fits, cell-added, cell-passed, body-put}
-use Rattle.writer.proofs.Parts.{cellOf}
+use Rattle.writer.proofs.Pasting.{put-none, put-no-piece, put-here, all-put}
+use Rattle.writer.proofs.Parts.{cellOf, body-parts, record-fits, cell-added, cell-passed}
 use Rattle.writer.proofs.put_body.Statement.{statement}
 use Rattle.writer.proofs.put_body.Tie as tie
 
@@ -19,29 +19,25 @@ Inv-loop t p target₀ at cells end₀ c₀ target end c = (c ≤ cells) × Put 
 abbrev μ-loop : tie.MeasureT-loop
 μ-loop t p target₀ at cells end₀ c₀ target end c = cells - c
 
+room-requires : tie.Need-room-requires Inv-loop μ-loop
+room-requires c κs = search needs
+
 loop-holds : tie.Need-loop-holds Inv-loop μ-loop
-loop-holds c =
-    (omega arith, put-no-piece _ _ _)
+loop-holds c = (omega arith, put-no-piece _)
 
-mul-if1 : tie.Need-mul-if1 Inv-loop μ-loop
-mul-if1 c = search needs
-
-mul-if1-2 : tie.Need-mul-if1-2 Inv-loop μ-loop
-mul-if1-2 c = search needs
-
-shared-slice-read-if1 : tie.Need-shared-slice-read-if1 Inv-loop μ-loop
-shared-slice-read-if1 c = search needs
+dim-requires : tie.Need-dim-requires Inv-loop μ-loop
+dim-requires c κs = search needs
 
 cast-if1 : tie.Need-cast-if1 Inv-loop μ-loop
-cast-if1 c =
-    omega (arith, c .shared-slice-known2 .given (c .before .before .loop .c * width))
+cast-if1 c = search needs
 
 put-cell-requires : tie.Need-put-cell-requires Inv-loop μ-loop
 put-cell-requires c κs =
-    let l = c .before .before .before .before in
-    let s = l .before .before .before in
-    let taken = c .before .before .before .loop-test .taken in
-    (taken, record-fits _ _ _ _ _ _ _ (l .loop .inv .1) taken (c .before .if1 .taken) (s .pre .0) (s .pre .1))
+    let d = c .before .before in
+    let l = d .before .before in
+    let s = l .before .before .before .before in
+    let inside : l .loop .c < cellsOf (s .args .t .now) = omega arith in
+    (inside, record-fits _ _ _ (l .loop .inv .1) inside (sym (d .dim .ensures) ∙ c .before .if1 .taken) (s .pre .0) (s .pre .1))
 
 add-c : tie.Need-add-c Inv-loop μ-loop
 add-c c = search needs
@@ -52,13 +48,12 @@ loop-less c = search needs
 loop-again : tie.Need-loop-again Inv-loop μ-loop
 loop-again c =
     let l = c .before .before .before in
-    let s = l .before .before .before in
-    let taken = c .before .before .loop-test .taken in (
+    let s = l .before .before .before .before in
+    let e = sym (c .before .dim .ensures) in (
       omega arith,
       ⊎-elim
-          (λ w. put-here _ _ _ _ _ _ _ (w .5) (w .6)
-          (cell-added _ _ _ _ _ _ _ (l .loop .inv .1) taken (w .0 .taken) (s .pre .0) _ _ (w .2 .ensures)))
-          (λ w. put-here _ _ _ _ _ _ _ (w .1) (w .2) (cell-passed _ _ _ _ _ _ _ (l .loop .inv .1) (w .0 .left)))
+          (λ w. put-here (w .5) (w .6) (cell-added _ _ _ (l .loop .inv .1) (omega arith) (e ∙ w .0 .taken) (s .pre .0) (w .2 .ensures)))
+          (λ w. put-here (w .1) (w .2) (cell-passed _ _ _ (l .loop .inv .1) (λ i. w .0 .left (sym e ∙ i))))
           (c .if1 .came),
     )
 
@@ -67,7 +62,7 @@ same-length c = search needs
 
 returns : tie.Need-returns Inv-loop μ-loop
 returns c =
-    body-put _ _ _ _ _ _ _ (c .before .loop .inv .1) (c .before .loop .inv .0) (c .loop-test .left)
+    all-put (cellOf _ _) _ (body-parts _ _) put-none (c .before .loop .inv .1) (omega arith) (omega arith)
 
 pub put-body-spec : {M : Type 1} → statement M
 put-body-spec =
@@ -75,10 +70,9 @@ put-body-spec =
     (tie.spec
     Inv-loop
     μ-loop
+    room-requires
     loop-holds
-    mul-if1
-    mul-if1-2
-    shared-slice-read-if1
+    dim-requires
     cast-if1
     put-cell-requires
     add-c

@@ -18,7 +18,7 @@ same-length c = search needs
 
 returns : tie.Need-returns
 returns c =
-    put-then _ _ _ _ _ _ _ _ (c .before .before .before .before .before .before .put-two .ensures) (c .before .before .put-four .ensures)
+    put-then (c .before .before .before .before .before .before .put-two .ensures) (c .before .before .put-four .ensures)
 
 pub put-entry-spec : {M : Type 1} → statement M
 put-entry-spec = tie.close (tie.spec put-two-requires put-four-requires same-length returns)

@@ -1,72 +1,23 @@
--- `writer::put_four` meets its contract: four stores, side by side. Assumes nothing.
+-- `writer::put_four` meets its contract: two bytes, and two more where they ended. Assumes nothing.
 use native.Mathlib.Omega.{arith}
 use borrow.Author.Needs.{needs}
-use lib.ListN.{length-set}
-use Rattle.writer.proofs.Pasting.{put-four}
+use Rattle.sketch.proofs.Bytes.{length-two}
+use Rattle.writer.proofs.Pasting.{put-as, put-then, two-and-two}
 use Rattle.writer.proofs.put_four.Statement.{statement}
 use Rattle.writer.proofs.put_four.Tie as tie
 
-cast-target : tie.Need-cast-target
-cast-target c = search needs
+put-two-requires : tie.Need-put-two-requires
+put-two-requires c κs = search needs
 
-slice-write-target : tie.Need-slice-write-target
-slice-write-target c = search needs
-
-cast-target-2 : tie.Need-cast-target-2
-cast-target-2 c = search needs
-
-add-target : tie.Need-add-target
-add-target c = search needs
-
-slice-write-target-2 : tie.Need-slice-write-target-2
-slice-write-target-2 c =
-    simp length-set (omega arith)
-
-cast-target-3 : tie.Need-cast-target-3
-cast-target-3 c = search needs
-
-add-target-2 : tie.Need-add-target-2
-add-target-2 c = search needs
-
-slice-write-target-3 : tie.Need-slice-write-target-3
-slice-write-target-3 c =
-    simp length-set (omega arith)
-
-cast-target-4 : tie.Need-cast-target-4
-cast-target-4 c = search needs
-
-add-target-3 : tie.Need-add-target-3
-add-target-3 c = search needs
-
-slice-write-target-4 : tie.Need-slice-write-target-4
-slice-write-target-4 c =
-    simp length-set (omega arith)
-
-add-result : tie.Need-add-result
-add-result c = search needs
+put-two-requires-2 : tie.Need-put-two-requires-2
+put-two-requires-2 c κs = omega (arith, length-two (c .before .before .before .before .before .before .args .offset))
 
 same-length : tie.Need-same-length
 same-length c = search needs
 
 returns : tie.Need-returns
 returns c =
-    put-four _ _ _
+    put-as (two-and-two _) (put-then (c .before .before .before .before .before .before .put-two .ensures) (c .before .before .put-two2 .ensures))
 
 pub put-four-spec : {M : Type 1} → statement M
-put-four-spec =
-    tie.close
-    (tie.spec
-    cast-target
-    slice-write-target
-    cast-target-2
-    add-target
-    slice-write-target-2
-    cast-target-3
-    add-target-2
-    slice-write-target-3
-    cast-target-4
-    add-target-3
-    slice-write-target-4
-    add-result
-    same-length
-    returns)
+put-four-spec = tie.close (tie.spec put-two-requires put-two-requires-2 same-length returns)

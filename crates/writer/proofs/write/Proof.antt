@@ -1,19 +1,18 @@
 -- `writer::write` meets its contract: the audit's verdict decides the first two refusals, the file's length the third; then the file
 -- is its contents and its bodies. Assumes nothing.
-use mathlib.Core.Path.{_≡_, sym, _∙_}
+use mathlib.Core.Path.{_≡_, sym, ap, _∙_}
 use Prim.Native.Nat.{_≤_}
 use native.Mathlib.Omega.{arith}
 use borrow.Author.Needs.{needs}
 use lib.ListN.{length}
-use Rattle.table.specs.Table.{Sized}
-use Rattle.table.specs.Audit.{auditGrounds}
-use Rattle.table.specs.Calls.{verdict}
-use Rattle.table.specs.declared.Verdict.the-variants.{Accepted}
+use Rattle.table.specs.Table.{Valid}
 use Rattle.audit.proofs.Valid.{audit-accepts-iff-valid}
-use Rattle.sketch.specs.Written.{fileOf}
-use Rattle.writer.proofs.Parts.{contents-fit, bodies-fit, file-put}
+use Rattle.sketch.specs.Form.{pieces, dimensions}
+use Rattle.sketch.specs.Written.{bodyOf, fileOf}
+use Rattle.writer.proofs.Pasting.{put-then, put-as, rest-fits}
+use Rattle.writer.proofs.Parts.{file-parts, contents-fit}
 use Rattle.writer.proofs.Starts.{array-fits, size-agrees}
-use Rattle.writer.proofs.Answers.{write-refused, write-no-room, ends-refused, ends-written}
+use Rattle.writer.proofs.Answers.{ends-refused, ends-without-room, ends-written}
 use Rattle.writer.proofs.write.Statement.{statement}
 use Rattle.writer.proofs.write.Tie as tie
 
@@ -27,11 +26,8 @@ enum-told : tie.Need-enum-told
 enum-told c = search needs
 
 -- where the verdict is told to be acceptance, the table is valid
-accepted : (c : tie.After-enum-told) → verdict (auditGrounds (c .before .before .before .before .before .args .t .now)) ≡ Accepted
-accepted c = sym (c .before .before .audit .ensures) ∙ c .enum-told .given .1
-
-sized : (c : tie.After-enum-told) → Sized (c .before .before .before .before .before .args .t .now)
-sized c = audit-accepts-iff-valid _ .0 (accepted c) .sized
+valid : (c : tie.After-enum-told) → Valid (c .before .before .before .before .before .args .t .now)
+valid c = audit-accepts-iff-valid _ .0 (sym (c .before .before .audit .ensures) ∙ c .enum-told .given .1)
 
 -- what was computed from the counts is the file's length
 size : (c : tie.After-file-size) → c .file-size .result ≡ length (fileOf (c .before .before .before .before .before .before .before .args .t .now))
@@ -39,44 +35,43 @@ size c = c .file-size .ensures ∙ size-agrees _ _ (c .before .count-cells .ensu
 
 room :
     (c : tie.Else1) →
-    length (fileOf (c .before .before .before .before .before .before .before .before .args .t .now)) ≤ length (c .before .before .before .before .before .before .before .before .args .target .now)
+    let a = c .before .before .before .before .before .before .before .before .args in
+    length (fileOf (a .t .now)) ≤ length (a .target .now)
 room c = omega (arith, c .if1 .left, size (c .before))
 
 count-cells-requires : tie.Need-count-cells-requires
 count-cells-requires c κs = search needs
 
 file-size-requires : tie.Need-file-size-requires
-file-size-requires c κs =
-    array-fits _ _ (sized (c .before)) (c .count-cells .ensures)
+file-size-requires c κs = array-fits _ _ (valid (c .before) .sized) (c .count-cells .ensures)
 
 returns : tie.Need-returns
-returns c =
-    let s = c .before .before .before .before .before .before .before .before in
-    ends-refused _ _ _
-    (write-no-room (s .args .t .now) (s .args .target .now) (accepted (c .before .before .before)) (omega (arith, c .if1 .taken, size (c .before))))
+returns c = ends-without-room _ _ (valid (c .before .before .before)) (omega (arith, c .if1 .taken, size (c .before)))
 
 put-contents-requires : tie.Need-put-contents-requires
 put-contents-requires c κs =
-    let s = c .before .before .before .before .before .before .before .before .before in
-    (sized (c .before .before .before .before), c .before .before .before .count-cells .ensures, contents-fit (s .args .t .now) _ (room (c .before)))
+    let n = c .before .before .before in
+    (valid (n .before) .sized, n .count-cells .ensures, contents-fit _ _ (room (c .before)))
 
 put-bodies-requires : tie.Need-put-bodies-requires
 put-bodies-requires c κs =
-    bodies-fit _ _ _ _ (c .before .before .before .put-contents .ensures) (room (c .before .before .before .before .before))
+    let p = c .before .before .before in
+    let e = p .before .before in
+    let t = e .before .before .before .before .before .before .before .before .args .t .now in
+    rest-fits (pieces (bodyOf t) dimensions) (p .put-contents .ensures) (omega (arith, room e, ap length (file-parts t)))
 
 returns-2 : tie.Need-returns-2
-returns-2 c =
-    ends-refused _ _ _ (write-refused _ _ _ (sym (c .before .before .before .audit .ensures) ∙ c .before .found .given .1))
+returns-2 c = ends-refused _ _ _ (sym (c .before .before .before .audit .ensures) ∙ c .before .found .given .1)
 
 same-length : tie.Need-same-length
 same-length c = search needs
 
 returns-3 : tie.Need-returns-3
 returns-3 c =
-    let w = c .before .before .before .before .before .before in
-    let r = w .before .before in
-    ends-written _ _ _ _ (accepted (r .before .before .before)) (room r)
-    (file-put _ _ _ _ _ _ (w .put-contents .ensures) (c .before .before .put-bodies .ensures))
+    let p = c .before .before .before .before .before .before in
+    let e = p .before .before in
+    ends-written _ _ (valid (e .before .before .before)) (room e)
+    (put-as (file-parts _) (put-then (p .put-contents .ensures) (c .before .before .put-bodies .ensures)))
 
 pub write-spec : {M : Type 1} → statement M
 write-spec =

@@ -1,0 +1,74 @@
+-- Counters, one at each place of a list: place p has how many of the numbers passed have property p. And the live cells of each
+-- dimension, counted so.
+-- What carries it: one number more is counted at its own place, or at none. Assumes nothing.
+use mathlib.Core.Path.{_≡_, sym, ap, _∙_}
+use mathlib.Core.Bool.{Bool, true, false, _&&_, and-false}
+use mathlib.Core.List.{List}
+use Prim.Native.Nat.{ℕ, _+_, _≤_, _<_}
+use native.Mathlib.Omega.{arith}
+use borrow.Author.Tests.{eq-eqb, ne-eqb}
+use lib.Dec.{eqb}
+use lib.ListN.{length, getD, set, replicate, length-replicate, getD-replicate, length-set}
+use lib.Seq.{getD-set-same, getD-set-other}
+use Rattle.table.specs.Table.{dim, Live, live}
+use Rattle.table.proofs.Cases.{same-or-other}
+use Rattle.table.proofs.Records.{live-says}
+use Rattle.counting.specs.Counting.{howMany}
+use Rattle.counting.proofs.Counting.{howMany-zero, howMany-yes-more, howMany-no-more, howMany-most}
+
+-- place p of xs, below m, has how many numbers below c have f p
+pub record Tally (m : ℕ) (f : ℕ → ℕ → Bool) (c : ℕ) (xs : List ℕ) : Type 0 where
+  pub room : length xs ≡ m
+  pub each : (p : ℕ) → p < m → getD xs p 0 ≡ howMany (f p) c
+
+pub tally-none : (m : ℕ) (f : ℕ → ℕ → Bool) → Tally m f 0 (replicate m 0)
+tally-none m f =
+    record {
+      room = length-replicate {A = ℕ} m 0;
+      each = λ p h. getD-replicate m p 0 0 h ∙ sym (howMany-zero (f p));
+    }
+
+module _ {m : ℕ} {f : ℕ → ℕ → Bool} {c : ℕ} {xs : List ℕ} (k : Tally m f c xs) where
+  pub tally-most : (p : ℕ) → p < m → getD xs p 0 ≤ c
+  tally-most p h = omega (arith, k .each p h, howMany-most (f p) c)
+
+  -- number c has none of the properties
+  pub tally-skipped : ((p : ℕ) → p < m → f p c ≡ false) → Tally m f (c + 1) xs
+  tally-skipped off =
+      record { room = k .room; each = λ p h. k .each p h ∙ sym (howMany-no-more (f p) c (off p h)) }
+
+  -- it has property q alone
+  pub tally-counted :
+      (q : ℕ) → q < m → f q c ≡ true → ((p : ℕ) → (p ≡ q → ⊥) → f p c ≡ false) →
+      Tally m f (c + 1) (set xs q (getD xs q 0 + 1))
+  tally-counted q l on off =
+      let ys = set xs q (getD xs q 0 + 1) in
+      record {
+        room = length-set xs q (getD xs q 0 + 1) ∙ k .room;
+        each = λ p h.
+            same-or-other (λ i. getD ys i 0 ≡ howMany (f i) (c + 1)) p q
+            (getD-set-same xs q (getD xs q 0 + 1) 0 (omega (arith, k .room))
+            ∙ ap (λ i. i + 1) (k .each q l)
+            ∙ sym (howMany-yes-more (f q) c on))
+            (λ ne. getD-set-other xs q p (getD xs q 0 + 1) 0 ne ∙ k .each p h ∙ sym (howMany-no-more (f p) c (off p ne)));
+      }
+
+-- whether c is a live cell of dimension p
+abbrev pub isCellAt : List ℕ → ℕ → ℕ → Bool
+isCellAt t p c = live t c && eqb (dim t c) p
+
+module _ (t : List ℕ) (c : ℕ) where
+  pub own-dimension : (p : ℕ) → Live t c → dim t c ≡ p → isCellAt t p c ≡ true
+  own-dimension p h e = rw (live-says t c h, eq-eqb (dim t c) p e)
+
+  pub other-dimension : (p : ℕ) → (dim t c ≡ p → ⊥) → isCellAt t p c ≡ false
+  other-dimension p ne = rw (ne-eqb (dim t c) p ne) (and-false (live t c))
+
+  module _ {m p : ℕ} {xs : List ℕ} (e : p ≡ dim t c) (k : Tally m (isCellAt t) c xs) where
+    -- a live cell is counted at its dimension, a record of no dimension nowhere
+    pub cell-counted : p < m → Live t c → Tally m (isCellAt t) (c + 1) (set xs p (getD xs p 0 + 1))
+    cell-counted l h =
+        tally-counted k p l (own-dimension p h (sym e)) (λ q ne. other-dimension q (λ i. ne (sym (e ∙ i))))
+
+    pub free-skipped : m ≤ p → Tally m (isCellAt t) (c + 1) xs
+    free-skipped l = tally-skipped k (λ q h. other-dimension q (λ i. omega (arith, e)))
