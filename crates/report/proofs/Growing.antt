@@ -13,7 +13,7 @@ use Rattle.table.specs.declared.Refusal.{Refusal}
 use Rattle.table.specs.declared.Refusal.the-variants.{Length, Invalid, NotLive, SameCell, DimensionsDiffer, FacesDiffer, NotClosed, TopMarked, NoRoom, TooLarge, Misplaced, NoSuchPlace, RuleA, RuleB, BadContents, BadNumber}
 use Rattle.sketch.specs.Form.{pieces, dimensions}
 use Rattle.report.specs.declared.Text.{Text}
-use Rattle.report.specs.Lines.{decimal, line, linesOf, refusedLine, space, newline, textOf}
+use Rattle.report.specs.Lines.{digit, decimal, line, linesOf, refusedLine, space, newline, textOf}
 use Rattle.report.specs.Making.{longestNumber, longestLine, Grown}
 
 -- ---- bytes after bytes
@@ -35,26 +35,23 @@ grown-as {x} g e l = record {
 
 -- ---- a number
 
-one-digit : (v : ℕ) → v < 10 → ((v + 48) ∷ []) ≡ decimal v
-unfolding decimal
-one-digit v h = rw (lt-ltb v 10 h)
+module _ {x r : Text} (v : ℕ) where
+  pub number-one : v < 10 → Grown x (digit v ∷ []) 1 r → Grown x (decimal v) longestNumber r
+  unfolding decimal
+  number-one h g = grown-as g (rw (lt-ltb v 10 h)) (omega arith)
 
-two-digits : (v : ℕ) → 10 ≤ v → v < 100 → ((v / 10 + 48) ∷ (v % 10 + 48) ∷ []) ≡ decimal v
-unfolding decimal
-two-digits v g h = rw (le-ltb v 10 g, lt-ltb v 100 h)
+  pub number-two :
+      {y : Text} → 10 ≤ v → v < 100 → Grown x (digit (v / 10) ∷ []) 1 y → Grown y (digit (v % 10) ∷ []) 1 r →
+      Grown x (decimal v) longestNumber r
+  unfolding decimal
+  number-two l h f g = grown-as (grown-then f g) (rw (le-ltb v 10 l, lt-ltb v 100 h)) (omega arith)
 
-three-digits : (v : ℕ) → 100 ≤ v → ((v / 100 + 48) ∷ (v / 10 % 10 + 48) ∷ (v % 10 + 48) ∷ []) ≡ decimal v
-unfolding decimal
-three-digits v g = rw (le-ltb v 10 (omega arith), le-ltb v 100 g)
-
-pub number-one : {x r : Text} (v : ℕ) → v < 10 → Grown x ((v + 48) ∷ []) 1 r → Grown x (decimal v) longestNumber r
-number-one v h g = grown-as g (one-digit v h) (omega arith)
-
-pub number-two : {x y r : Text} (v : ℕ) → 10 ≤ v → v < 100 → Grown x ((v / 10 + 48) ∷ []) 1 y → Grown y ((v % 10 + 48) ∷ []) 1 r → Grown x (decimal v) longestNumber r
-number-two v l h f g = grown-as (grown-then f g) (two-digits v l h) (omega arith)
-
-pub number-three : {x y z r : Text} (v : ℕ) → 100 ≤ v → Grown x ((v / 100 + 48) ∷ []) 1 y → Grown y ((v / 10 % 10 + 48) ∷ []) 1 z → Grown z ((v % 10 + 48) ∷ []) 1 r → Grown x (decimal v) longestNumber r
-number-three v l e f g = grown-as (grown-then (grown-then e f) g) (three-digits v l) (omega arith)
+  pub number-three :
+      {y z : Text} → 100 ≤ v → Grown x (digit (v / 100) ∷ []) 1 y → Grown y (digit (v / 10 % 10) ∷ []) 1 z →
+      Grown z (digit (v % 10) ∷ []) 1 r → Grown x (decimal v) longestNumber r
+  unfolding decimal
+  number-three l e f g =
+      grown-as (grown-then (grown-then e f) g) (rw (le-ltb v 10 (omega arith), le-ltb v 100 l)) (omega arith)
 
 -- ---- a line
 

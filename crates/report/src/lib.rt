@@ -8,7 +8,7 @@ ghost use Rattle.table.specs.Table.{Valid};
 ghost use Rattle.table.specs.Numbers.{numberOf};
 ghost use Rattle.rows.specs.Rows.{evidenceWords};
 ghost use Rattle.sketch.specs.Form.{contentsSize};
-ghost use Rattle.report.specs.Lines.{decimal, line, linesOf, refusedLine, textOf};
+ghost use Rattle.report.specs.Lines.{digit, decimal, line, linesOf, refusedLine, textOf};
 ghost use Rattle.report.specs.Report.{longest, sizeIn, noSketch, HoleLines, Reports};
 ghost use Rattle.report.specs.Making.{room, longestNumber, longestLine, Grown, Told};
 use table::Refusal;
@@ -46,6 +46,15 @@ fn push(x: Text, b: u8) -> Text
     }
 }
 
+// One digit more.
+fn push_digit(x: Text, d: u16) -> Text
+    requires { ⌜ x .len < room ⌝ }
+    requires { ⌜ d < 10 ⌝ }
+    ensures { λ r. ⌜ Grown x (digit d ∷ []) 1 r ⌝ }
+{
+    push(x, (d + 48) as u8)
+}
+
 // A number in decimal digits.
 fn push_number(x: Text, v: u16) -> Text
     requires { ⌜ x .len + longestNumber ≤ room ⌝ }
@@ -53,15 +62,12 @@ fn push_number(x: Text, v: u16) -> Text
     ensures { λ r. ⌜ Grown x (decimal v) longestNumber r ⌝ }
 {
     if v < 10 {
-        return push(x, (v + 48) as u8);
+        return push_digit(x, v);
     }
     if v < 100 {
-        let tens = push(x, (v / 10 + 48) as u8);
-        return push(tens, (v % 10 + 48) as u8);
+        return push_digit(push_digit(x, v / 10), v % 10);
     }
-    let hundreds = push(x, (v / 100 + 48) as u8);
-    let tens = push(hundreds, (v / 10 % 10 + 48) as u8);
-    push(tens, (v % 10 + 48) as u8)
+    push_digit(push_digit(push_digit(x, v / 100), v / 10 % 10), v % 10)
 }
 
 // The line of dimension p: n live cells, hole number h.
