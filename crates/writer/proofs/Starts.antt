@@ -9,7 +9,8 @@ use Rattle.table.specs.Table.{cellsOf, Sized}
 use Rattle.counting.specs.Counting.{howMany}
 use Rattle.counting.proofs.Tallies.{Tally, isCellAt}
 use Rattle.sketch.specs.Form.{dimensions, contentsSize, recordSize, bodyStart}
-use Rattle.sketch.specs.Written.{isCell, countOf, fileOf}
+use Rattle.table.specs.Table.{isCell}
+use Rattle.sketch.specs.Written.{countOf, fileOf}
 use Rattle.sketch.proofs.Pieces.{total-cong}
 use Rattle.sketch.proofs.Sizes.{bodyStart-more, bodyStart-grows, length-file, start-fits}
 use Rattle.writer.specs.Put.{Counted, inArray, longest}
