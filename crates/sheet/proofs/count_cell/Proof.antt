@@ -39,9 +39,9 @@ places c = c .used .ensures .0 ∙ ap usedOf (c .before .dim .ensures)
 
 inside : (c : tie.After-face Inv-loop μ-loop) → c .face .result < cellsOf (c .before .before .before .before .before .before .before .args .t .now)
 inside c =
-    let u = c .before .before .before in
-    let s = u .before .before .before .before in
-    face-in _ (s .pre .0) _ _ _ (s .pre .1) (omega (arith, c .before .loop-test .taken, places u)) (c .face .ensures)
+    let l = c .before .before in
+    let s = l .before .before .before .before .before in
+    face-in _ (s .pre .0) _ (l .loop .j) _ (s .pre .1) (omega (arith, c .before .loop-test .taken, places (l .before))) (c .face .ensures)
 
 cast-u : tie.Need-cast-u Inv-loop μ-loop
 cast-u c = search needs
