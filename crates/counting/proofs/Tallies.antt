@@ -18,13 +18,13 @@ use Rattle.counting.proofs.Counting.{howMany-zero, howMany-yes-more, ho
 
 -- place p of xs, below m, has how many numbers below c have f p
 pub record Tally (m : ℕ) (f : ℕ → ℕ → Bool) (c : ℕ) (xs : List ℕ) : Type 0 where
-  pub room : length xs ≡ m
+  pub long : length xs ≡ m
   pub each : (p : ℕ) → p < m → getD xs p 0 ≡ howMany (f p) c
 
 pub tally-none : (m : ℕ) (f : ℕ → ℕ → Bool) → Tally m f 0 (replicate m 0)
 tally-none m f =
     record {
-      room = length-replicate {A = ℕ} m 0;
+      long = length-replicate {A = ℕ} m 0;
       each = λ p h. getD-replicate m p 0 0 h ∙ sym (howMany-zero (f p));
     }
 
@@ -35,7 +35,7 @@ module _ {m : ℕ} {f : ℕ → ℕ → Bool} {c : ℕ} {xs : List ℕ} (k : Tal
   -- number c has none of the properties
   pub tally-skipped : ((p : ℕ) → p < m → f p c ≡ false) → Tally m f (c + 1) xs
   tally-skipped off =
-      record { room = k .room; each = λ p h. k .each p h ∙ sym (howMany-no-more (f p) c (off p h)) }
+      record { long = k .long; each = λ p h. k .each p h ∙ sym (howMany-no-more (f p) c (off p h)) }
 
   -- it has property q alone
   pub tally-counted :
@@ -44,10 +44,10 @@ module _ {m : ℕ} {f : ℕ → ℕ → Bool} {c : ℕ} {xs : List ℕ} (k : Tal
   tally-counted q l on off =
       let ys = set xs q (getD xs q 0 + 1) in
       record {
-        room = length-set xs q (getD xs q 0 + 1) ∙ k .room;
+        long = length-set xs q (getD xs q 0 + 1) ∙ k .long;
         each = λ p h.
             same-or-other (λ i. getD ys i 0 ≡ howMany (f i) (c + 1)) p q
-            (getD-set-same xs q (getD xs q 0 + 1) 0 (omega (arith, k .room))
+            (getD-set-same xs q (getD xs q 0 + 1) 0 (omega (arith, k .long))
             ∙ ap (λ i. i + 1) (k .each q l)
             ∙ sym (howMany-yes-more (f q) c on))
             (λ ne. getD-set-other xs q p (getD xs q 0 + 1) 0 ne ∙ k .each p h ∙ sym (howMany-no-more (f p) c (off p ne)));
