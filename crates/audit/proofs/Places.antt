@@ -6,7 +6,8 @@ use Prim.Native.Nat.{ℕ, _+_, _≤_, _<_}
 use native.Mathlib.Omega.{arith}
 use borrow.Author.Tests.{ne-eqb, le-leb, lt-leb, eqb-false, leb-true}
 use lib.Dec.{leb, eqb}
-use Rattle.table.specs.Kind.{top, faces, pick, used}
+use Rattle.counting.specs.Counting.{pick}
+use Rattle.table.specs.Kind.{top, faces, used}
 use Rattle.table.specs.Audit.{lawPlaces}
 
 -- a dimension from 1 to 6 has one place more than its number

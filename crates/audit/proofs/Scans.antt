@@ -7,7 +7,7 @@ use Prim.Native.Nat.{ℕ, zero, suc, _+_, _<_}
 use native.Mathlib.Nat.{not-suc-le-zero, le-of-suc-le-suc, eq-or-lt-of-le}
 use native.Mathlib.Numerals.{add-one}
 use native.Mathlib.Omega.{arith}
-use Rattle.table.specs.Kind.{pick}
+use Rattle.counting.specs.Counting.{pick}
 use Rattle.table.specs.Audit.{all, scan, orElse, isSound}
 use Rattle.table.specs.declared.Breach.{Breach}
 use Rattle.table.specs.declared.Breach.the-variants.{Sound, Record, Face, Law}

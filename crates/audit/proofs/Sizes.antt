@@ -9,7 +9,8 @@ use native.Mathlib.Nat.{div-add-mod'}
 use borrow.Author.Tests.{eq-eqb, ne-eqb, le-leb, lt-ltb, eqb-true, eqb-false, leb-true, ltb-true, not-true}
 use lib.ListN.{length}
 use lib.Dec.{leb, ltb, eqb}
-use Rattle.table.specs.Kind.{capacity, top, width, pick}
+use Rattle.counting.specs.Counting.{pick}
+use Rattle.table.specs.Kind.{capacity, top, width}
 use Rattle.table.specs.Table.{cellsOf, dim, Sized, sizedCells, Live, live}
 use Rattle.table.proofs.Records.{sized-cells-is}
 use Rattle.table.specs.Audit.{sized}

@@ -9,7 +9,8 @@ use Prim.Native.Nat.{ℕ, suc, _-_, _≤_, _<_}
 use native.Mathlib.Omega.{arith}
 use borrow.Author.Tests.{eq-eqb, le-leb, lt-ltb, le-ltb, eqb-true, leb-true, ltb-true, ltb-false}
 use lib.Dec.{leb, ltb, eqb}
-use Rattle.table.specs.Kind.{top, faces, freeMark, pick, used}
+use Rattle.counting.specs.Counting.{pick}
+use Rattle.table.specs.Kind.{top, faces, freeMark, used}
 use Rattle.table.specs.Table.{cellsOf, dim, face, Live, Valid}
 use Rattle.table.specs.Audit.{all, scan, orElse, isSound, recordSound, faceSound, lawSound, lawPlaces, recordBreach, faceBreach, lawBreach, cellBreach, firstBreach, sized, sound, auditGrounds}
 use Rattle.table.specs.Calls.{verdict}

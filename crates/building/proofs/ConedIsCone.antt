@@ -11,17 +11,17 @@ use borrow.Author.Tests.{eq-eqb, ne-eqb, lt-ltb, le-ltb, ltb-true}
 use lib.ListN.{length}
 use lib.Dec.{eqb, ltb}
 use Rattle.bitset.specs.Bits.{member}
-use Rattle.table.specs.Kind.{faces, width, freeMark, pick, used}
+use Rattle.table.specs.Kind.{faces, width, freeMark, used}
 use Rattle.table.specs.Table.{cellsOf, dim, face, live}
 use Rattle.table.specs.declared.Verdict.the-variants.{Accepted}
 use Rattle.table.proofs.Words.{length-tableOf, dim-tableOf, face-tableOf}
 use Rattle.audit.proofs.Scans.{and-right}
 use Rattle.table.proofs.Records.{live-true}
 use Rattle.audit.proofs.Places.{used-says}
-use Rattle.counting.specs.Counting.{howMany}
+use Rattle.counting.specs.Counting.{howMany, pick}
 use Rattle.cone.specs.Cone.{free, apexOf, coneOf, baseOf, newCells, coneFace, given, coned, coneVerdict}
 use Rattle.building.specs.ConeRule.{Earlier, IsCone}
-use Rattle.table.proofs.Cases.{true-or-false}
+use Rattle.counting.proofs.Cases.{true-or-false}
 use Rattle.cone.proofs.Acceptance.{Accepts, cone-accepted}
 use Rattle.cone.proofs.GivenNumbers.{free-inside, live-not-free, apex-is-free, apex-is-lowest, apex-given, cone-is-free, cone-given, apex-below-cone, cones-rise, base-of-cone, base-marked, cone-of-base, below-given, base-before}
 

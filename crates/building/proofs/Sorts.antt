@@ -18,7 +18,7 @@ use Rattle.table.proofs.Records.{live-true}
 use Rattle.audit.proofs.Places.{used-is}
 use Rattle.counting.specs.Counting.{someHas}
 use Rattle.cone.specs.Cone.{free}
-use Rattle.table.proofs.Cases.{below-or-not}
+use Rattle.counting.proofs.Cases.{below-or-not}
 use Rattle.counting.proofs.Counting.{someHas-each, someHas-one}
 use Rattle.cone.proofs.GivenNumbers.{not-live-free}
 

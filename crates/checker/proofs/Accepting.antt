@@ -13,7 +13,8 @@ use lib.ListN.{length}
 use Rattle.homology.specs.Evidence.{RuleA, RuleB, Meets}
 use Rattle.homology.proofs.Marks.{by-mark, clash, both, left-on, right-on}
 use Rattle.bitset.specs.Bits.{wordsFor}
-use Rattle.table.specs.Kind.{capacity, pick}
+use Rattle.counting.specs.Counting.{pick}
+use Rattle.table.specs.Kind.{capacity}
 use Rattle.table.specs.Table.{cellsOf, Sized, sizedCells, Valid}
 use Rattle.table.specs.Audit.{sized, sound, auditGrounds}
 use Rattle.table.specs.Calls.{verdict}

@@ -10,8 +10,8 @@ use lib.Dec.{eqb, leb}
 use Rattle.homology.specs.Holes.{Chain, boundary}
 use Rattle.homology.specs.Evidence.{cellsIn, holesIn}
 use Rattle.bitset.specs.Bits.{bits}
-use Rattle.counting.specs.Counting.{someHas}
-use Rattle.table.specs.Kind.{top, pick}
+use Rattle.counting.specs.Counting.{someHas, pick}
+use Rattle.table.specs.Kind.{top}
 use Rattle.table.specs.Table.{cellsOf, dim, live}
 use Rattle.table.specs.Words.{listed}
 use Rattle.table.specs.Audit.{all, sized, onValidity}

@@ -21,7 +21,7 @@ use Rattle.table.proofs.Records.{live-says, live-true}
 use Rattle.audit.proofs.Valid.{sound-is-valid, valid-is-sound, valid-is-sized}
 use Rattle.counting.specs.Counting.{howMany, someHas}
 use Rattle.cone.specs.Cone.{free, newCells, markedNotLive, notClosed, topMarked, noRoom, coneGrounds, coneVerdict}
-use Rattle.table.proofs.Cases.{below-or-not}
+use Rattle.counting.proofs.Cases.{below-or-not}
 use Rattle.counting.proofs.Counting.{someHas-each, someHas-none}
 use Rattle.audit.proofs.Grounds.{accepted-none-applies, none-applies-accepted}
 

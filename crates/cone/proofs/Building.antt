@@ -11,14 +11,14 @@ use borrow.Author.Tests.{lt-ltb, le-ltb, eq-eqb, ne-eqb}
 use lib.ListN.{length}
 use lib.Dec.{ltb, eqb}
 use Rattle.bitset.specs.Bits.{member}
-use Rattle.table.specs.Kind.{faces, width, freeMark, pick}
+use Rattle.table.specs.Kind.{faces, width, freeMark}
 use Rattle.table.specs.Table.{cellsOf, dim, face, live}
 use Rattle.table.specs.Words.{tableOf}
 use Rattle.table.specs.Stores.{Stored}
-use Rattle.table.proofs.Cases.{below-or-not}
+use Rattle.counting.proofs.Cases.{below-or-not}
 use Rattle.table.proofs.Words.{length-tableOf, dim-tableOf, face-tableOf, table-by-records}
 use Rattle.table.proofs.Stores.{stored-table}
-use Rattle.counting.specs.Counting.{howMany}
+use Rattle.counting.specs.Counting.{howMany, pick}
 use Rattle.counting.proofs.Counting.{howMany-yes-more, same-rank}
 use Rattle.cone.specs.Cone.{free, apexOf, coneOf, baseOf, newCells, coneFace, given, coned}
 use Rattle.cone.proofs.Acceptance.{Accepts}

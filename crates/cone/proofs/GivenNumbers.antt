@@ -15,7 +15,7 @@ use Rattle.table.specs.Table.{cellsOf, live}
 use Rattle.audit.proofs.Scans.{and-left, and-right, and-both}
 use Rattle.counting.specs.Counting.{howMany, nth}
 use Rattle.cone.specs.Cone.{free, apexOf, coneOf, baseOf, newCells, given}
-use Rattle.table.proofs.Cases.{true-or-false}
+use Rattle.counting.proofs.Cases.{true-or-false}
 use Rattle.counting.proofs.Counting.{howMany-strict, nth-has, nth-rank, rank-nth, nth-rising, same-rank, rank-inside}
 use Rattle.cone.proofs.Acceptance.{Accepts}
 

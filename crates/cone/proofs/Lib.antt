@@ -1,7 +1,5 @@
 pub mod Acceptance
 pub mod GivenNumbers
-pub mod Stores
-pub mod Cells
 pub mod Searches
 pub mod Numbering
 pub mod Sides

@@ -14,7 +14,7 @@ use lib.Dec.{ltb}
 use Rattle.bitset.specs.Bits.{member}
 use Rattle.table.specs.Kind.{capacity}
 use Rattle.table.specs.Table.{cellsOf, live}
-use Rattle.table.proofs.Cases.{below-or-not, same-or-other}
+use Rattle.counting.proofs.Cases.{below-or-not, same-or-other}
 use Rattle.counting.specs.Counting.{howMany, nth}
 use Rattle.counting.proofs.Counting.{howMany-zero, howMany-mono, howMany-yes-more, howMany-no-more, nth-none, nth-below, nth-has, nth-rank, rank-nth}
 use Rattle.cone.specs.Cone.{free, apexOf, coneOf, newCells, noRoom}

@@ -10,7 +10,8 @@ use borrow.Author.Tests.{eq-eqb, ne-eqb, not-true, not-false}
 use lib.ListN.{length}
 use lib.Dec.{eqb}
 use Rattle.bitset.specs.Bits.{wordsFor}
-use Rattle.table.specs.Kind.{capacity, pick}
+use Rattle.counting.specs.Counting.{pick}
+use Rattle.table.specs.Kind.{capacity}
 use Rattle.table.specs.Table.{cellsOf}
 use Rattle.table.specs.Audit.{sized, auditGrounds}
 use Rattle.table.specs.Calls.{Ground, verdict, named, leaves, Ends}

@@ -13,14 +13,14 @@ use lib.Dec.{eqb}
 use Rattle.bitset.specs.Bits.{bits, member, TopIs, IsGreatest}
 use Rattle.bitset.specs.declared.Top.the-variants.{Nothing}
 use Rattle.bitset.proofs.Marks.{true-member, false-member}
-use Rattle.table.specs.Kind.{top, pick, used}
+use Rattle.table.specs.Kind.{top, used}
 use Rattle.table.specs.Table.{cellsOf, dim, live}
 use Rattle.table.specs.Calls.{verdict}
 use Rattle.table.specs.declared.Refusal.the-variants.{NotLive, NotClosed, TopMarked}
 use Rattle.table.specs.declared.Verdict.the-variants.{Accepted, Refused}
-use Rattle.table.proofs.Cases.{below-or-not}
+use Rattle.counting.proofs.Cases.{below-or-not}
 use Rattle.table.proofs.Records.{outside-dead}
-use Rattle.counting.specs.Counting.{someHas}
+use Rattle.counting.specs.Counting.{someHas, pick}
 use Rattle.counting.proofs.Counting.{someHas-each, someHas-none, someHas-at, someHas-one}
 use Rattle.cone.specs.Cone.{markedNotLive, notClosed, topMarked}
 use Rattle.cone.specs.Parts.{MarkedBelow, openFace, markGrounds}

@@ -10,9 +10,10 @@ use borrow.Author.Tests.{lt-ltb, le-ltb, eq-eqb, ne-eqb, le-leb}
 use lib.ListN.{length, getD, set, replicate, getD-replicate}
 use lib.Seq.{getD-set-same, getD-set-other}
 use lib.Dec.{ltb, eqb}
-use Rattle.table.specs.Kind.{capacity, top, faces, freeMark, pick, used}
+use Rattle.counting.specs.Counting.{pick}
+use Rattle.table.specs.Kind.{capacity, top, faces, freeMark, used}
 use Rattle.table.specs.Table.{dim, facesOf}
-use Rattle.table.proofs.Cases.{below-or-not, same-or-other}
+use Rattle.counting.proofs.Cases.{below-or-not, same-or-other}
 use Rattle.table.proofs.Records.{faces-at}
 use Rattle.table.proofs.Stores.{upTo}
 use Rattle.cone.specs.Parts.{overFace, Coneable}

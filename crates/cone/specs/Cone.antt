@@ -8,7 +8,7 @@ use Prim.Native.Nat.{ℕ, suc, _+_, _*_, _-_, _≤_, _<_}
 use lib.ListN.{length}
 use lib.Dec.{eqb, ltb, leb}
 use Rattle.bitset.specs.Bits.{bits, wordsFor, member}
-use Rattle.table.specs.Kind.{top, faces, freeMark, pick, used}
+use Rattle.table.specs.Kind.{top, faces, freeMark, used}
 use Rattle.table.specs.Table.{cellsOf, dim, face, live}
 use Rattle.table.specs.Words.{tableOf}
 use Rattle.table.specs.Audit.{sized, onValidity}
@@ -16,7 +16,7 @@ use Rattle.table.specs.Calls.{Ground, verdict, named, leaves}
 use Rattle.table.specs.declared.Refusal.the-variants.{Length, NotLive, NotClosed, TopMarked, NoRoom}
 use Rattle.table.specs.declared.Verdict.{Verdict}
 use Rattle.table.specs.declared.Named.{Named}
-use Rattle.counting.specs.Counting.{howMany, nth, someHas}
+use Rattle.counting.specs.Counting.{howMany, nth, someHas, pick}
 
 -- a number inside the table whose record is free
 unfoldable pub free : List ℕ → ℕ → Bool

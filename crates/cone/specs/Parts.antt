@@ -7,9 +7,9 @@ use Prim.Native.Nat.{ℕ, suc, _*_, _-_, _≤_, _<_}
 use lib.ListN.{length, getD}
 use lib.Dec.{eqb, ltb}
 use Rattle.bitset.specs.Bits.{bits, wordsFor, member}
-use Rattle.table.specs.Kind.{capacity, top, freeMark, pick, used}
+use Rattle.table.specs.Kind.{capacity, top, freeMark, used}
 use Rattle.table.specs.Table.{cellsOf, dim, face}
-use Rattle.counting.specs.Counting.{howMany, nth}
+use Rattle.counting.specs.Counting.{howMany, nth, pick}
 use Rattle.table.specs.Audit.{sized, onValidity}
 use Rattle.table.specs.Calls.{Ground}
 use Rattle.table.specs.declared.Refusal.the-variants.{Length, NotLive, NotClosed, TopMarked}

@@ -9,9 +9,8 @@ use native.Mathlib.Numerals.{add-one}
 use native.Mathlib.Omega.{arith}
 use borrow.Author.Tests.{eq-eqb, ne-eqb}
 use lib.Dec.{eqb}
-use Rattle.table.specs.Kind.{pick}
-use Rattle.table.proofs.Cases.{below-or-not, true-or-false}
-use Rattle.counting.specs.Counting.{howMany, nth, someHas}
+use Rattle.counting.proofs.Cases.{below-or-not, true-or-false}
+use Rattle.counting.specs.Counting.{howMany, nth, someHas, pick}
 
 module _ (f : ℕ → Bool) where
   -- howMany: at the start, at a number that has f, and at one that has not

@@ -1,18 +1,13 @@
--- Counters, one at each place of a list: place p has how many of the numbers passed have property p. And the live cells of each
--- dimension, counted so.
+-- Counters, one at each place of a list: place p has how many of the numbers passed have property p.
 -- What carries it: one number more is counted at its own place, or at none. Assumes nothing.
 use mathlib.Core.Path.{_≡_, sym, ap, _∙_}
-use mathlib.Core.Bool.{Bool, true, false, _&&_, and-false}
+use mathlib.Core.Bool.{Bool, true, false}
 use mathlib.Core.List.{List}
 use Prim.Native.Nat.{ℕ, _+_, _≤_, _<_}
 use native.Mathlib.Omega.{arith}
-use borrow.Author.Tests.{eq-eqb, ne-eqb}
-use lib.Dec.{eqb}
 use lib.ListN.{length, getD, set, replicate, length-replicate, getD-replicate, length-set}
 use lib.Seq.{getD-set-same, getD-set-other}
-use Rattle.table.specs.Table.{dim, Live, live}
-use Rattle.table.proofs.Cases.{same-or-other}
-use Rattle.table.proofs.Records.{live-says}
+use Rattle.counting.proofs.Cases.{same-or-other}
 use Rattle.counting.specs.Counting.{howMany}
 use Rattle.counting.proofs.Counting.{howMany-zero, howMany-yes-more, howMany-no-more, howMany-most}
 
@@ -52,23 +47,3 @@ module _ {m : ℕ} {f : ℕ → ℕ → Bool} {c : ℕ} {xs : List ℕ} (k : Tal
             ∙ sym (howMany-yes-more (f q) c on))
             (λ ne. getD-set-other xs q p (getD xs q 0 + 1) 0 ne ∙ k .each p h ∙ sym (howMany-no-more (f p) c (off p ne)));
       }
-
--- whether c is a live cell of dimension p
-abbrev pub isCellAt : List ℕ → ℕ → ℕ → Bool
-isCellAt t p c = live t c && eqb (dim t c) p
-
-module _ (t : List ℕ) (c : ℕ) where
-  pub own-dimension : (p : ℕ) → Live t c → dim t c ≡ p → isCellAt t p c ≡ true
-  own-dimension p h e = rw (live-says t c h, eq-eqb (dim t c) p e)
-
-  pub other-dimension : (p : ℕ) → (dim t c ≡ p → ⊥) → isCellAt t p c ≡ false
-  other-dimension p ne = rw (ne-eqb (dim t c) p ne) (and-false (live t c))
-
-  module _ {m p : ℕ} {xs : List ℕ} (e : p ≡ dim t c) (k : Tally m (isCellAt t) c xs) where
-    -- a live cell is counted at its dimension, a record of no dimension nowhere
-    pub cell-counted : p < m → Live t c → Tally m (isCellAt t) (c + 1) (set xs p (getD xs p 0 + 1))
-    cell-counted l h =
-        tally-counted k p l (own-dimension p h (sym e)) (λ q ne. other-dimension q (λ i. ne (sym (e ∙ i))))
-
-    pub free-skipped : m ≤ p → Tally m (isCellAt t) (c + 1) xs
-    free-skipped l = tally-skipped k (λ q h. other-dimension q (λ i. omega (arith, e)))

@@ -3,7 +3,11 @@
 use mathlib.Core.Bool.{Bool, true, false, _&&_, _||_, not}
 use Prim.Native.Nat.{ℕ, zero, suc, _+_}
 use lib.Dec.{eqb}
-use Rattle.table.specs.Kind.{pick}
+
+-- the first where the test holds, else the second
+abbrev pub pick {ℓ} : {A : Type ℓ} → Bool → A → A → A
+pick true a b = a
+pick false a b = b
 
 -- how many numbers below n have f
 unfoldable pub howMany : (ℕ → Bool) → ℕ → ℕ

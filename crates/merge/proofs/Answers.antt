@@ -18,7 +18,7 @@ use Rattle.table.specs.declared.Verdict.{Verdict}
 use Rattle.table.specs.declared.Verdict.the-variants.{Accepted, Refused}
 use Rattle.table.specs.declared.Named.{Named}
 use Rattle.table.specs.declared.Named.the-variants.{Cell, NoCell}
-use Rattle.table.proofs.Cases.{same-or-not}
+use Rattle.counting.proofs.Cases.{same-or-not}
 use Rattle.audit.proofs.Outcomes.{one-outcome}
 use Rattle.merge.specs.Merge.{IsIdentification, sameFaces, mergeVerdict, merged, mergeAnswer, mergeLeaves}
 use Rattle.merge.proofs.Renaming.{renamed-both-ways}

@@ -10,12 +10,13 @@ use native.Mathlib.Omega.{arith}
 use borrow.Author.Tests.{eq-eqb, ne-eqb}
 use lib.ListN.{getD, take}
 use lib.Seq.{ext-getD, getD-take}
-use Rattle.table.specs.Kind.{faces, pick, used}
+use Rattle.counting.specs.Counting.{pick}
+use Rattle.table.specs.Kind.{faces, used}
 use Rattle.table.specs.Table.{dim, face, facesOf, Live, Valid}
 use Rattle.table.specs.declared.Refusal.{Refusal}
 use Rattle.table.specs.declared.Refusal.the-variants.{FacesDiffer}
 use Rattle.table.specs.declared.Verdict.the-variants.{Accepted, Refused}
-use Rattle.table.proofs.Cases.{below-or-not}
+use Rattle.counting.proofs.Cases.{below-or-not}
 use Rattle.table.proofs.Records.{faces-at, live-says}
 use Rattle.audit.proofs.Valid.{valid-is-sound, valid-is-sized}
 use Rattle.merge.specs.Merge.{faceList, sameFaces, mergeVerdict}

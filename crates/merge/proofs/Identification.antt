@@ -7,7 +7,7 @@ use Prim.Native.Nat.{ℕ, _<_, max}
 use native.Mathlib.Omega.{arith}
 use Rattle.table.specs.Kind.{faces}
 use Rattle.table.specs.Table.{cellsOf, dim, face, Sized, Live, Valid}
-use Rattle.table.proofs.Cases.{same-or-not, same-or-other}
+use Rattle.counting.proofs.Cases.{same-or-not, same-or-other}
 use Rattle.table.proofs.Words.{table-by-records}
 use Rattle.merge.specs.Rename.{identify}
 use Rattle.merge.specs.Merge.{IsIdentification, merged}

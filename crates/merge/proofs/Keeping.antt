@@ -7,7 +7,7 @@ use Prim.Native.Nat.{ℕ, suc, _+_, _-_, _≤_, _<_, min, max}
 use native.Mathlib.Omega.{arith}
 use Rattle.table.specs.Kind.{top, faces, freeMark, used}
 use Rattle.table.specs.Table.{cellsOf, dim, face, Live, Valid}
-use Rattle.table.proofs.Cases.{below-or-not, same-or-not}
+use Rattle.counting.proofs.Cases.{below-or-not, same-or-not}
 use Rattle.table.proofs.Words.{table-by-records}
 use Rattle.audit.proofs.Places.{used-is, used-says, used-fits}
 use Rattle.merge.specs.Rename.{renamed, identify}

@@ -11,11 +11,12 @@ use borrow.Author.Tests.{lt-ltb, le-ltb, eq-eqb, ne-eqb}
 use lib.ListN.{length, getD, set}
 use lib.Seq.{getD-set-same, getD-set-other}
 use lib.Dec.{ltb, eqb}
-use Rattle.table.specs.Kind.{faces, freeMark, pick}
+use Rattle.counting.specs.Counting.{pick}
+use Rattle.table.specs.Kind.{faces, freeMark}
 use Rattle.table.specs.Table.{cellsOf, dim, face, Sized}
 use Rattle.table.specs.Words.{tableOf}
 use Rattle.table.specs.Stores.{Stored}
-use Rattle.table.proofs.Cases.{below-or-not}
+use Rattle.counting.proofs.Cases.{below-or-not}
 use Rattle.table.proofs.Words.{length-tableOf, dim-tableOf, face-tableOf, table-by-records}
 use Rattle.table.proofs.Stores.{stored-table}
 use Rattle.merge.specs.Rename.{renamed, identify}

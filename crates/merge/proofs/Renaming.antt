@@ -9,9 +9,10 @@ use native.Mathlib.Omega.{arith}
 use borrow.Author.Tests.{eq-eqb, ne-eqb}
 use lib.ListN.{length}
 use lib.Dec.{eqb}
-use Rattle.table.specs.Kind.{faces, width, freeMark, pick}
+use Rattle.counting.specs.Counting.{pick}
+use Rattle.table.specs.Kind.{faces, width, freeMark}
 use Rattle.table.specs.Table.{cellsOf, dim, face, Sized, Live}
-use Rattle.table.proofs.Cases.{same-or-not}
+use Rattle.counting.proofs.Cases.{same-or-not}
 use Rattle.table.proofs.Words.{length-tableOf, cellsOf-tableOf, dim-tableOf, face-tableOf, table-by-records}
 use Rattle.merge.specs.Rename.{renamed, identify}
 

@@ -4,7 +4,8 @@
 use mathlib.Core.List.{List}
 use Prim.Native.Nat.{ℕ, min, max}
 use lib.Dec.{eqb}
-use Rattle.table.specs.Kind.{freeMark, pick}
+use Rattle.counting.specs.Counting.{pick}
+use Rattle.table.specs.Kind.{freeMark}
 use Rattle.table.specs.Table.{cellsOf, dim, face}
 use Rattle.table.specs.Words.{tableOf}
 

@@ -5,7 +5,7 @@ use mathlib.Core.List.{List}
 use Prim.Native.Nat.{ℕ}
 use lib.ListN.{drop}
 use lib.Dec.{eqb}
-use Rattle.table.specs.Kind.{pick}
+use Rattle.counting.specs.Counting.{pick}
 use Rattle.table.specs.Calls.{Ground}
 use Rattle.merge.specs.Merge.{mergeGrounds}
 

@@ -9,7 +9,8 @@ use native.Mathlib.Omega.{arith}
 use borrow.Author.Tests.{not-false}
 use lib.ListN.{length, replicate}
 use lib.Dec.{eqb, leb}
-use Rattle.table.specs.Kind.{capacity, width, freeMark, pick}
+use Rattle.counting.specs.Counting.{pick}
+use Rattle.table.specs.Kind.{capacity, width, freeMark}
 use Rattle.table.specs.Table.{cellsOf, sizedCells}
 use Rattle.table.specs.Audit.{sized, sound, auditGrounds}
 use Rattle.table.specs.Calls.{verdict, onVerdict, Ends}
@@ -18,7 +19,7 @@ use Rattle.table.specs.declared.Refusal.{Refusal}
 use Rattle.table.specs.declared.Refusal.the-variants.{Length, Invalid, BadContents, BadNumber}
 use Rattle.table.specs.declared.Verdict.{Verdict}
 use Rattle.table.specs.declared.Verdict.the-variants.{Accepted, Refused}
-use Rattle.table.proofs.Cases.{true-or-false}
+use Rattle.counting.proofs.Cases.{true-or-false}
 use Rattle.audit.specs.Empty.{emptied, emptyLeaves}
 use Rattle.audit.proofs.Sizes.{sized-is-sized, no-cells, some-cells}
 use Rattle.table.proofs.Records.{sized-cells-is}

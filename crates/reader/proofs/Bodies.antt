@@ -12,7 +12,7 @@ use Rattle.table.specs.Table.{dim, face}
 use Rattle.table.specs.Audit.{all}
 use Rattle.table.proofs.Words.{table-by-records}
 use Rattle.counting.specs.Counting.{someHas}
-use Rattle.table.proofs.Cases.{below-or-not, true-or-false}
+use Rattle.counting.proofs.Cases.{below-or-not, true-or-false}
 use Rattle.counting.proofs.Counting.{someHas-each, someHas-one}
 use Rattle.audit.proofs.Scans.{all-says}
 use Rattle.sketch.specs.Form.{dimensions, bodyStart}

@@ -7,9 +7,8 @@ use Prim.Native.Nat.{ℕ, _+_, _-_, _≤_, _<_}
 use native.Mathlib.Omega.{arith}
 use borrow.Author.Tests.{lt-ltb, le-ltb, ne-eqb}
 use lib.Dec.{eqb, ltb}
-use Rattle.table.specs.Kind.{pick}
 use Rattle.table.specs.Audit.{all}
-use Rattle.counting.specs.Counting.{someHas}
+use Rattle.counting.specs.Counting.{someHas, pick}
 use Rattle.audit.proofs.Scans.{all-true}
 use Rattle.audit.proofs.Records.{not-true-false}
 use Rattle.sketch.specs.Read.{numberIn, inBody, numberFits}

@@ -11,7 +11,7 @@ use borrow.Author.Count.{below-more}
 use Rattle.table.specs.Kind.{faces, freeMark, used}
 use Rattle.table.specs.Table.{dim, face}
 use Rattle.counting.specs.Counting.{someHas}
-use Rattle.table.proofs.Cases.{below-or-not, true-or-false}
+use Rattle.counting.proofs.Cases.{below-or-not, true-or-false}
 use Rattle.counting.proofs.Counting.{someHas-each, someHas-none}
 use Rattle.audit.proofs.Places.{used-fits}
 use Rattle.sketch.specs.Form.{twoAt, dimensions, facePlace, recordSize}

@@ -14,9 +14,10 @@ use lib.IntN.{ℤ, pos, negℤ, natAbs, _+ℤ_, +ℤ-assoc, +ℤ-idr}
 use lib.Dec.{eqb}
 use mir.Syntax.{w64}
 use mir.Val.{SFits}
-use Rattle.table.specs.Kind.{faces, pick}
+use Rattle.counting.specs.Counting.{pick}
+use Rattle.table.specs.Kind.{faces}
 use Rattle.table.specs.Table.{face}
-use Rattle.table.proofs.Cases.{same-or-not}
+use Rattle.counting.proofs.Cases.{same-or-not}
 use Rattle.reading.specs.Sums.{sumTo, integers}
 use Rattle.reading.specs.Boundary.{limit}
 use Rattle.reading.specs.Steps.{turned, placeAdds, put, added, Adding}

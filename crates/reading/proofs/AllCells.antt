@@ -14,7 +14,7 @@ use mir.Syntax.{w64}
 use mir.Val.{SFits, ofZ}
 use Rattle.table.specs.Kind.{used}
 use Rattle.table.specs.Table.{cellsOf, face, isCell}
-use Rattle.table.proofs.Cases.{below-or-not}
+use Rattle.counting.proofs.Cases.{below-or-not}
 use Rattle.audit.proofs.Scans.{or-else, all-true}
 use Rattle.audit.proofs.Places.{used-fits}
 use Rattle.reading.specs.Sums.{sumTo, integers}

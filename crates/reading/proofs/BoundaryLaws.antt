@@ -9,9 +9,10 @@ use Prim.Native.Nat.{ℕ, zero, suc}
 use borrow.Author.Tests.{ne-eqb}
 use lib.IntN.{ℤ, pos, _*ℤ_, *ℤ-zero, *ℤ-comm}
 use lib.Dec.{eqb}
-use Rattle.table.specs.Kind.{pick, used}
+use Rattle.counting.specs.Counting.{pick}
+use Rattle.table.specs.Kind.{used}
 use Rattle.table.specs.Table.{cellsOf, dim, face, Valid, isCell}
-use Rattle.table.proofs.Cases.{true-or-false, same-or-not}
+use Rattle.counting.proofs.Cases.{true-or-false, same-or-not}
 use Rattle.reading.specs.Sums.{sumTo, sign}
 use Rattle.reading.specs.Incidence.{incidenceOf}
 use Rattle.reading.specs.Boundary.{boundaryOf, one, cellBoundary, publishedBoundary}

@@ -6,7 +6,7 @@ use Prim.Native.Nat.{ℕ, zero, suc, _-_, _%_, _≤_, _<_}
 use native.Mathlib.Omega.{arith}
 use borrow.Author.Tests.{eq-eqb, ne-eqb}
 use lib.IntN.{ℤ, pos, negsuc, negℤ, _+ℤ_, _*ℤ_, +ℤ-idl, +ℤ-invr, *ℤ-comm}
-use Rattle.table.proofs.Cases.{same-or-not}
+use Rattle.counting.proofs.Cases.{same-or-not}
 use Rattle.reading.specs.Sums.{sumTo, sign}
 use Rattle.reading.proofs.Integers.{minus-times, times-regroup}
 use Rattle.reading.proofs.SumLaws.{sum-same, sum-of-sums, sum-minus}

@@ -13,9 +13,10 @@ use lib.Signed.{_≤ℤ_, leZ, leZ-yes}
 use lib.Dec.{T, eqb, ltb, le→leb}
 use mir.Syntax.{w64}
 use mir.Val.{SFits}
-use Rattle.table.specs.Kind.{faces, pick, used}
+use Rattle.counting.specs.Counting.{pick}
+use Rattle.table.specs.Kind.{faces, used}
 use Rattle.table.specs.Table.{dim, face}
-use Rattle.table.proofs.Cases.{same-or-not}
+use Rattle.counting.proofs.Cases.{same-or-not}
 use Rattle.audit.proofs.Places.{used-fits}
 use Rattle.reading.specs.Sums.{sumTo, sign}
 use Rattle.reading.specs.Incidence.{incidenceOf}

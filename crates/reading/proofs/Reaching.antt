@@ -9,7 +9,8 @@ use native.Mathlib.Nat.{mul-le-mul}
 use native.Mathlib.Omega.{arith}
 use lib.IntN.{ℤ, pos, negsuc, negℤ, natAbs, _+ℤ_, _*ℤ_, +ℤ-idr, zero-*ℤ, *ℤ-comm}
 use lib.Dec.{eqb}
-use Rattle.table.specs.Kind.{capacity, faces, pick, used}
+use Rattle.counting.specs.Counting.{pick}
+use Rattle.table.specs.Kind.{capacity, faces, used}
 use Rattle.table.specs.Table.{cellsOf, dim, face, Valid, isCell}
 use Rattle.audit.proofs.Places.{used-fits}
 use Rattle.reading.specs.Sums.{sumTo, sign}

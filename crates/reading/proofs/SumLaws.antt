@@ -10,7 +10,7 @@ use native.Mathlib.Omega.{arith}
 use borrow.Author.Tests.{eq-eqb, ne-eqb}
 use lib.IntN.{ℤ, pos, negℤ, _+ℤ_, _*ℤ_, +ℤ-idl, +ℤ-idr, *ℤ-zero, *ℤ-comm, negℤ-+ℤ}
 use lib.Dec.{eqb}
-use Rattle.table.specs.Kind.{pick}
+use Rattle.counting.specs.Counting.{pick}
 use Rattle.reading.specs.Sums.{sumTo}
 use Rattle.reading.proofs.Integers.{middle, over-times}
 

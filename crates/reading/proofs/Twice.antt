@@ -9,9 +9,10 @@ use Prim.Native.Nat.{ℕ, zero, suc, _≤_, _<_}
 use native.Mathlib.Omega.{arith}
 use lib.IntN.{ℤ, pos, _*ℤ_, *ℤ-zero, zero-*ℤ}
 use lib.Dec.{eqb}
-use Rattle.table.specs.Kind.{top, pick, used}
+use Rattle.counting.specs.Counting.{pick}
+use Rattle.table.specs.Kind.{top, used}
 use Rattle.table.specs.Table.{cellsOf, dim, face, Valid, isCell}
-use Rattle.table.proofs.Cases.{true-or-false}
+use Rattle.counting.proofs.Cases.{true-or-false}
 use Rattle.reading.specs.Sums.{sumTo, sign}
 use Rattle.reading.specs.Boundary.{boundaryOf, one, cellBoundary, publishedBoundary}
 use Rattle.reading.proofs.Integers.{one-times, times-regroup}

@@ -12,7 +12,7 @@ use lib.IntN.{ℤ, pos}
 use Rattle.table.specs.Table.{cellsOf, isCell}
 use Rattle.table.specs.Calls.{Ends}
 use Rattle.table.specs.declared.Verdict.the-variants.{Accepted}
-use Rattle.table.proofs.Cases.{below-or-not}
+use Rattle.counting.proofs.Cases.{below-or-not}
 use Rattle.table.proofs.Records.{outside-dead}
 use Rattle.reading.specs.Sums.{integers}
 use Rattle.reading.specs.Boundary.{boundaryOf, boundaryVerdict, boundaryLeaves, coefficient}

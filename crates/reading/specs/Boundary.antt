@@ -7,7 +7,8 @@ use Prim.Native.Nat.{ℕ, zero, suc, _^_}
 use lib.ListN.{length, getD}
 use lib.IntN.{ℤ, pos, _*ℤ_, natAbs}
 use lib.Dec.{eqb, leb, ltb}
-use Rattle.table.specs.Kind.{top, pick, used}
+use Rattle.counting.specs.Counting.{pick}
+use Rattle.table.specs.Kind.{top, used}
 use Rattle.table.specs.Table.{cellsOf, dim, face, isCell}
 use Rattle.table.specs.Audit.{all, sized, onValidity}
 use Rattle.table.specs.Calls.{Ground, verdict, onVerdict}

@@ -5,7 +5,8 @@ use mathlib.Core.List.{List, [], _∷_}
 use Prim.Native.Nat.{ℕ, suc}
 use lib.IntN.{ℤ, pos}
 use lib.Dec.{eqb}
-use Rattle.table.specs.Kind.{pick, used}
+use Rattle.counting.specs.Counting.{pick}
+use Rattle.table.specs.Kind.{used}
 use Rattle.table.specs.Table.{dim, face, live}
 use Rattle.table.specs.Audit.{onLength, onValidity}
 use Rattle.table.specs.Calls.{Ground, verdict, onVerdict}

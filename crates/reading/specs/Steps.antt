@@ -7,7 +7,8 @@ use Prim.Native.Nat.{ℕ, suc, _^_, _%_, _≤_, _<_}
 use lib.ListN.{length, getD, set}
 use lib.IntN.{ℤ, pos, negℤ, _+ℤ_, _*ℤ_, natAbs}
 use lib.Dec.{eqb, leb, ltb}
-use Rattle.table.specs.Kind.{top, faces, pick}
+use Rattle.counting.specs.Counting.{pick}
+use Rattle.table.specs.Kind.{top, faces}
 use Rattle.table.specs.Table.{cellsOf, dim, face, live, Valid, isCell}
 use Rattle.table.specs.Audit.{all, sized}
 use Rattle.table.specs.Calls.{Ground, verdict, onVerdict}

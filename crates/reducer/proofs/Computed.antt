@@ -16,7 +16,7 @@ use Rattle.homology.proofs.Marks.{by-mark, by-order, clash, same-number, test-s
 use Rattle.homology.proofs.Tops.{Below, largest-unique}
 use Rattle.bitset.specs.Bits.{member, sumOf}
 use Rattle.bitset.proofs.Marks.{length-sum}
-use Rattle.table.specs.Kind.{pick}
+use Rattle.counting.specs.Counting.{pick}
 use Rattle.table.specs.Table.{cellsOf, live, Valid}
 use Rattle.complex.specs.Cells.{cells}
 use Rattle.rows.specs.Rows.{rowWidth, rowOf}

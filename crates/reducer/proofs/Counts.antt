@@ -12,7 +12,8 @@ use lib.Dec.{eqb}
 use lib.ListN.{length, getD, set, replicate, length-set}
 use lib.Seq.{ext-getD, getD-set-same, getD-set-other}
 use Rattle.homology.proofs.Marks.{by-mark}
-use Rattle.table.specs.Kind.{capacity, top, pick}
+use Rattle.counting.specs.Counting.{pick}
+use Rattle.table.specs.Kind.{capacity, top}
 use Rattle.table.specs.Table.{dim, live}
 use Rattle.table.specs.Words.{listed}
 use Rattle.table.proofs.Words.{length-listed, getD-listed}

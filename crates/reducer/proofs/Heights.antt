@@ -10,7 +10,7 @@ use Rattle.homology.proofs.Marks.{by-mark, by-order, clash}
 use Rattle.bitset.specs.Bits.{bits, member, sumOf, IsGreatest}
 use Rattle.bitset.proofs.Marks.{true-member, false-member}
 use Rattle.bitset.proofs.Greatest.{sum-of-tops-empty}
-use Rattle.table.specs.Kind.{pick}
+use Rattle.counting.specs.Counting.{pick}
 
 -- the largest number below n that has x, and one more
 unfoldable pub heightBelow : ℕ → (ℕ → Bool) → ℕ

@@ -12,7 +12,7 @@ use lib.Seq.{ext-getD}
 use Rattle.homology.proofs.Marks.{by-mark, by-order}
 use Rattle.homology.proofs.Tops.{largest-unique}
 use Rattle.bitset.specs.Bits.{sumOf}
-use Rattle.table.specs.Kind.{pick}
+use Rattle.counting.specs.Counting.{pick}
 use Rattle.table.specs.Table.{cellsOf, dim, live}
 use Rattle.table.specs.declared.Verdict.{Verdict}
 use Rattle.table.specs.declared.Verdict.the-variants.{Accepted, Refused}

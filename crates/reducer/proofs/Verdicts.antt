@@ -11,7 +11,8 @@ use lib.Dec.{eqb, leb}
 use lib.ListN.{length, replicate}
 use Rattle.homology.proofs.Marks.{by-mark, both, left-on, right-on, &&-off}
 use Rattle.bitset.specs.Bits.{wordsFor}
-use Rattle.table.specs.Kind.{capacity, top, width, pick}
+use Rattle.counting.specs.Counting.{pick}
+use Rattle.table.specs.Kind.{capacity, top, width}
 use Rattle.table.specs.Table.{cellsOf, sizedCells, Valid}
 use Rattle.table.specs.Audit.{sized, sound, auditGrounds}
 use Rattle.table.specs.Calls.{verdict}

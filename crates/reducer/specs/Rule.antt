@@ -11,7 +11,7 @@ use lib.Dec.{eqb}
 use Rattle.homology.specs.Holes.{boundary}
 use Rattle.homology.specs.Evidence.{IsLargest}
 use Rattle.bitset.specs.Bits.{member, toggled, sumOf}
-use Rattle.table.specs.Kind.{pick}
+use Rattle.counting.specs.Counting.{pick}
 use Rattle.table.specs.Table.{cellsOf, dim, live}
 use Rattle.complex.specs.Cells.{cells}
 use Rattle.rows.specs.Rows.{rowWidth, evidenceWords, rowOf}

@@ -4,7 +4,7 @@ use mathlib.Core.List.{List, [], _∷_, _++_}
 use Prim.Native.Nat.{ℕ, _+_, _/_, _%_}
 use lib.ListN.{take}
 use lib.Dec.{ltb}
-use Rattle.table.specs.Kind.{pick}
+use Rattle.counting.specs.Counting.{pick}
 use Rattle.sketch.specs.Form.{pieces, dimensions}
 use Rattle.report.specs.declared.Text.{Text}
 

@@ -8,7 +8,8 @@ use lib.ListN.{length, replicate}
 use lib.Dec.{ltb, eqb}
 use Rattle.homology.specs.Holes.{IsHoleNumber}
 use Rattle.homology.specs.Evidence.{cellsIn}
-use Rattle.table.specs.Kind.{capacity, width, freeMark, pick}
+use Rattle.counting.specs.Counting.{pick}
+use Rattle.table.specs.Kind.{capacity, width, freeMark}
 use Rattle.table.specs.Numbers.{numberOf}
 use Rattle.table.specs.declared.Refusal.{Refusal}
 use Rattle.table.specs.declared.Refusal.the-variants.{BadContents}

@@ -5,7 +5,8 @@ use mathlib.Core.List.{List}
 use Prim.Native.Nat.{ℕ}
 use lib.ListN.{length, replicate}
 use lib.Dec.{eqb}
-use Rattle.table.specs.Kind.{freeMark, pick}
+use Rattle.counting.specs.Counting.{pick}
+use Rattle.table.specs.Kind.{freeMark}
 use Rattle.table.specs.Table.{cellsOf, Valid}
 use Rattle.table.specs.Numbers.{numberOf}
 use Rattle.table.specs.Calls.{onVerdict}

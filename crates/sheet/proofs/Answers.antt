@@ -7,7 +7,8 @@ use mathlib.Core.Logic.{_↔_}
 use Prim.Native.Nat.{ℕ, _*_}
 use native.Mathlib.Omega.{arith}
 use lib.ListN.{length, getD, replicate, length-replicate, getD-replicate}
-use Rattle.table.specs.Kind.{width, freeMark, pick}
+use Rattle.counting.specs.Counting.{pick}
+use Rattle.table.specs.Kind.{width, freeMark}
 use Rattle.table.specs.Table.{dim, Sized, Live, Valid}
 use Rattle.table.specs.Audit.{auditGrounds}
 use Rattle.table.specs.Calls.{verdict, onVerdict}

@@ -11,10 +11,10 @@ use lib.ListN.{length, getD, set, replicate, length-set, length-replicate, getD-
 use lib.Seq.{getD-set-same, getD-set-other}
 use lib.Dec.{eqb}
 use Rattle.counting.proofs.Counting.{howMany-most, someHas-at}
-use Rattle.counting.specs.Counting.{howMany, someHas}
-use Rattle.table.specs.Kind.{capacity, pick, used}
+use Rattle.counting.specs.Counting.{howMany, someHas, pick}
+use Rattle.table.specs.Kind.{capacity, used}
 use Rattle.table.specs.Table.{cellsOf, dim, face, Valid}
-use Rattle.table.proofs.Cases.{same-or-other}
+use Rattle.counting.proofs.Cases.{same-or-other}
 use Rattle.audit.proofs.Places.{used-says}
 use Rattle.sheet.specs.Sheet.{hasFace}
 use Rattle.sheet.specs.Sides.{namedBelow, sidesBelow, Counted}

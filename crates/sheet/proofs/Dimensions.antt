@@ -8,10 +8,10 @@ use Prim.Native.Nat.{ℕ, zero, suc, max, _+_, _≤_, _<_}
 use native.Mathlib.Nat.{not-suc-le-zero, le-max-left, le-max-right, max-eq-left, max-eq-right, zero-max, suc-max-suc}
 use native.Mathlib.Numerals.{add-one}
 use native.Mathlib.Omega.{arith}
-use Rattle.counting.specs.Counting.{someHas}
-use Rattle.table.proofs.Cases.{below-or-not, true-or-false}
+use Rattle.counting.specs.Counting.{someHas, pick}
+use Rattle.counting.proofs.Cases.{below-or-not, true-or-false}
 use Rattle.counting.proofs.Counting.{someHas-at, someHas-each}
-use Rattle.table.specs.Kind.{top, faces, pick}
+use Rattle.table.specs.Kind.{top, faces}
 use Rattle.table.specs.Table.{cellsOf, dim, live}
 use Rattle.table.proofs.Records.{live-says, live-true}
 use Rattle.audit.proofs.Scans.{at-or-below}

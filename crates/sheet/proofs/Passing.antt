@@ -10,12 +10,12 @@ use native.Mathlib.Omega.{arith}
 use borrow.Author.Tests.{eq-eqb, ne-eqb, le-leb, eqb-true, eqb-false, leb-true, lt-ltb, le-ltb, not-true, not-false}
 use lib.ListN.{getD}
 use lib.Dec.{eqb, leb, ltb}
-use Rattle.counting.specs.Counting.{someHas}
-use Rattle.table.specs.Kind.{top, pick}
+use Rattle.counting.specs.Counting.{someHas, pick}
+use Rattle.table.specs.Kind.{top}
 use Rattle.table.specs.Table.{cellsOf, dim, Live, live, Valid}
 use Rattle.table.specs.Audit.{all}
 use Rattle.audit.proofs.Scans.{and-both, or-else, all-true, all-says}
-use Rattle.table.proofs.Cases.{below-or-not}
+use Rattle.counting.proofs.Cases.{below-or-not}
 use Rattle.audit.proofs.Records.{not-true-false}
 use Rattle.sheet.specs.Sheet.{topDim, isSheet}
 use Rattle.sheet.specs.Sides.{levelsBelow, sidesBelow, Counted, passes, allPass}

@@ -14,7 +14,7 @@ use Rattle.counting.proofs.Counting.{someHas-at}
 use Rattle.table.specs.Table.{cellsOf, dim, face, Live, live, Valid}
 use Rattle.table.specs.Audit.{all}
 use Rattle.audit.proofs.Scans.{and-left, and-right, and-both, or-else, all-true, all-says}
-use Rattle.table.proofs.Cases.{same-or-not}
+use Rattle.counting.proofs.Cases.{same-or-not}
 use Rattle.table.proofs.Records.{live-says, live-true}
 use Rattle.audit.proofs.Records.{not-true-false}
 use Rattle.sheet.specs.Sheet.{Reached, itself, through, wings, IsSheet, topDim, covered, isSheet}

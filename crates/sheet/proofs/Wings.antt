@@ -9,7 +9,7 @@ use native.Mathlib.Omega.{arith}
 use borrow.Author.Tests.{eq-eqb}
 use lib.Dec.{eqb}
 use Rattle.counting.specs.Counting.{howMany, someHas}
-use Rattle.table.proofs.Cases.{true-or-false}
+use Rattle.counting.proofs.Cases.{true-or-false}
 use Rattle.counting.proofs.Counting.{howMany-strict, someHas-each, someHas-one}
 use Rattle.table.specs.Table.{cellsOf, dim, live, Valid}
 use Rattle.table.proofs.Records.{live-says}

@@ -6,8 +6,8 @@ use mathlib.Core.Bool.{Bool, true, false, _&&_, _||_, not}
 use mathlib.Core.List.{List, [], _∷_}
 use Prim.Native.Nat.{ℕ, zero, suc, max, _≤_, _<_}
 use lib.Dec.{eqb, leb}
-use Rattle.counting.specs.Counting.{howMany, someHas}
-use Rattle.table.specs.Kind.{pick, used}
+use Rattle.counting.specs.Counting.{howMany, someHas, pick}
+use Rattle.table.specs.Kind.{used}
 use Rattle.table.specs.Table.{cellsOf, dim, face, Live, live}
 use Rattle.table.specs.Audit.{auditGrounds, all}
 use Rattle.table.specs.Calls.{verdict, onVerdict}

@@ -6,8 +6,8 @@ use mathlib.Core.List.{List}
 use Prim.Native.Nat.{ℕ, zero, suc, max, _+_, _≤_, _<_}
 use lib.ListN.{length, getD}
 use lib.Dec.{eqb, leb, ltb}
-use Rattle.counting.specs.Counting.{howMany, someHas}
-use Rattle.table.specs.Kind.{top, pick}
+use Rattle.counting.specs.Counting.{howMany, someHas, pick}
+use Rattle.table.specs.Kind.{top}
 use Rattle.table.specs.Table.{cellsOf, dim, face, live}
 use Rattle.table.specs.Audit.{all}
 use Rattle.sheet.specs.Sheet.{hasFace}

@@ -5,7 +5,7 @@ use mathlib.Core.Bool.{Bool, true, false, not}
 use mathlib.Core.List.{List}
 use Prim.Native.Nat.{ℕ}
 use native.Mathlib.Omega.{arith}
-use Rattle.table.specs.Kind.{pick}
+use Rattle.counting.specs.Counting.{pick}
 use Rattle.table.specs.Table.{cellsOf, Sized, Valid}
 use Rattle.table.specs.Audit.{sized, sound}
 use Rattle.table.specs.declared.Refusal.{Refusal}

@@ -9,12 +9,12 @@ use native.Mathlib.Omega.{arith}
 use borrow.Author.Tests.{lt-ltb, le-ltb}
 use lib.ListN.{length, getD, List·getD-eq-default}
 use lib.Dec.{eqb, ltb}
-use Rattle.table.specs.Kind.{width, faces, freeMark, pick, used}
+use Rattle.table.specs.Kind.{width, faces, freeMark, used}
 use Rattle.table.specs.Table.{cellsOf, dim, face, Sized}
 use Rattle.table.specs.Words.{wordOf, tableOf}
 use Rattle.table.proofs.Words.{length-tableOf, cellsOf-tableOf, dim-tableOf, face-tableOf, getD-listed}
-use Rattle.counting.specs.Counting.{howMany, nth, someHas}
-use Rattle.table.proofs.Cases.{below-or-not}
+use Rattle.counting.specs.Counting.{howMany, nth, someHas, pick}
+use Rattle.counting.proofs.Cases.{below-or-not}
 use Rattle.counting.proofs.Counting.{nth-below, nth-none}
 use Rattle.audit.proofs.Places.{used-fits}
 use Rattle.sketch.specs.Form.{dimensions}

@@ -8,9 +8,10 @@ use Prim.Native.Nat.{ℕ, zero, suc, _+_, _-_, _≤_, _<_}
 use native.Mathlib.Omega.{arith}
 use lib.ListN.{length, getD, List·getD-append}
 use lib.Seq.{getD-append-add}
-use Rattle.table.specs.Kind.{pick, used}
+use Rattle.counting.specs.Counting.{pick}
+use Rattle.table.specs.Kind.{used}
 use Rattle.table.specs.Table.{cellsOf, dim, face, isCell}
-use Rattle.table.proofs.Cases.{below-or-not}
+use Rattle.counting.proofs.Cases.{below-or-not}
 use Rattle.sketch.specs.Form.{two, four, pieces, dimensions, bodyStart}
 use Rattle.sketch.specs.Written.{countOf, cellBytes, bodyOf, contentsOf, fileOf}
 use Rattle.sketch.proofs.Bytes.{two-small, four-small}

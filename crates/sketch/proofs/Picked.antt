@@ -5,9 +5,8 @@ use mathlib.Core.Bool.{Bool, true, false}
 use mathlib.Core.List.{List, [], _++_, append-nil}
 use mathlib.Core.Logic.{⊎-elim}
 use Prim.Native.Nat.{ℕ, zero, suc}
-use Rattle.table.specs.Kind.{pick}
-use Rattle.counting.specs.Counting.{howMany, nth}
-use Rattle.table.proofs.Cases.{true-or-false}
+use Rattle.counting.specs.Counting.{howMany, nth, pick}
+use Rattle.counting.proofs.Cases.{true-or-false}
 use Rattle.counting.proofs.Counting.{howMany-zero, howMany-yes, howMany-no, nth-here, nth-suc}
 use Rattle.sketch.specs.Form.{pieces}
 use Rattle.sketch.proofs.Pieces.{pieces-zero, pieces-suc, pieces-cong}

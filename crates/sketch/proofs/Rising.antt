@@ -7,7 +7,7 @@ use Prim.Native.Nat.{ℕ, zero, suc, _≤_, _<_}
 use native.Mathlib.Nat.{not-suc-le-zero, le-of-suc-le-suc, eq-or-lt-of-le}
 use native.Mathlib.Omega.{arith}
 use Rattle.counting.specs.Counting.{howMany, nth}
-use Rattle.table.proofs.Cases.{below-or-not, true-or-false}
+use Rattle.counting.proofs.Cases.{below-or-not, true-or-false}
 use Rattle.counting.proofs.Counting.{howMany-zero, howMany-yes, howMany-no, rank-nth}
 
 -- where no number has the property the count stands still

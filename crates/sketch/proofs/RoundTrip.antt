@@ -9,14 +9,15 @@ use Prim.Native.Nat.{ℕ, zero, suc, _+_, _*_, _/_, _%_, _≤_, _<_}
 use native.Mathlib.Omega.{arith}
 use lib.ListN.{length, getD, replicate, List·getD-eq-default}
 use lib.Dec.{eqb}
-use Rattle.table.specs.Kind.{width, faces, freeMark, pick, used}
+use Rattle.counting.specs.Counting.{pick}
+use Rattle.table.specs.Kind.{width, faces, freeMark, used}
 use Rattle.table.specs.Table.{cellsOf, dim, face, Sized, Valid}
 use Rattle.table.specs.Audit.{sound}
 use Rattle.table.specs.Calls.{onVerdict}
 use Rattle.table.specs.Numbers.{numberOf}
 use Rattle.table.specs.declared.Verdict.{Verdict}
 use Rattle.table.specs.declared.Verdict.the-variants.{Accepted}
-use Rattle.table.proofs.Cases.{below-or-not}
+use Rattle.counting.proofs.Cases.{below-or-not}
 use Rattle.audit.proofs.Places.{used-says}
 use Rattle.audit.proofs.Sizes.{sized-says}
 use Rattle.audit.proofs.Valid.{valid-is-sound}

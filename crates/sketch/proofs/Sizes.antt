@@ -8,10 +8,10 @@ use Prim.Native.Nat.{ℕ, zero, suc, _+_, _*_, _≤_}
 use native.Mathlib.Nat.{mul-le-mul-left}
 use native.Mathlib.Omega.{arith}
 use lib.ListN.{length}
-use Rattle.table.specs.Kind.{capacity, top, pick}
+use Rattle.table.specs.Kind.{capacity, top}
 use Rattle.table.specs.Table.{cellsOf, dim, face, Sized, isCell}
-use Rattle.counting.specs.Counting.{howMany}
-use Rattle.table.proofs.Cases.{true-or-false}
+use Rattle.counting.specs.Counting.{howMany, pick}
+use Rattle.counting.proofs.Cases.{true-or-false}
 use Rattle.counting.proofs.Counting.{howMany-zero, howMany-yes, howMany-no}
 use Rattle.audit.proofs.Places.{used-fits}
 use Rattle.sketch.specs.Form.{total, dimensions, contentsSize, recordSize, bodyStart}

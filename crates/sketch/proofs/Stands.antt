@@ -9,7 +9,7 @@ use native.Mathlib.Nat.{zero-add, add-zero, add-assoc, not-suc-le-zero, le-of-su
 use native.Mathlib.Omega.{arith}
 use lib.ListN.{length, getD, length-append, List·getD-append}
 use lib.Seq.{getD-append-add, ext-getD}
-use Rattle.table.proofs.Cases.{below-or-not}
+use Rattle.counting.proofs.Cases.{below-or-not}
 use Rattle.sketch.specs.Form.{two, four, twoAt, fourAt, pieces}
 use Rattle.sketch.proofs.Bytes.{length-two, length-four, two-reads, four-reads, two-back, four-back}
 use Rattle.sketch.proofs.Pieces.{pieces-zero, pieces-suc}

@@ -10,7 +10,7 @@ use Rattle.table.specs.Kind.{capacity, top, faces, freeMark, used}
 use Rattle.table.specs.Table.{cellsOf, dim, face, Valid, isCell}
 use Rattle.table.proofs.Words.{table-by-records}
 use Rattle.counting.specs.Counting.{howMany}
-use Rattle.table.proofs.Cases.{below-or-not, true-or-false}
+use Rattle.counting.proofs.Cases.{below-or-not, true-or-false}
 use Rattle.counting.proofs.Counting.{howMany-most, howMany-strict, nth-below, nth-rising, rank-nth}
 use Rattle.audit.proofs.Places.{used-says}
 use Rattle.sketch.specs.Form.{dimensions}

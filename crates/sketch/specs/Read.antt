@@ -5,8 +5,8 @@ use mathlib.Core.List.{List, [], _∷_}
 use Prim.Native.Nat.{ℕ, zero, suc, _+_, _*_, _-_}
 use lib.ListN.{length, replicate}
 use lib.Dec.{eqb, ltb, leb}
-use Rattle.counting.specs.Counting.{someHas, nth}
-use Rattle.table.specs.Kind.{freeMark, pick, used}
+use Rattle.counting.specs.Counting.{someHas, nth, pick}
+use Rattle.table.specs.Kind.{freeMark, used}
 use Rattle.table.specs.Table.{cellsOf}
 use Rattle.table.specs.Words.{tableOf}
 use Rattle.table.specs.Audit.{all, onLength, sound}

@@ -4,8 +4,8 @@ use mathlib.Core.List.{List, [], _∷_, _++_}
 use Prim.Native.Nat.{ℕ, _+_}
 use lib.ListN.{length, drop}
 use lib.Dec.{ltb}
-use Rattle.counting.specs.Counting.{howMany}
-use Rattle.table.specs.Kind.{pick, used}
+use Rattle.counting.specs.Counting.{howMany, pick}
+use Rattle.table.specs.Kind.{used}
 use Rattle.table.specs.Table.{cellsOf, dim, face, isCell}
 use Rattle.table.specs.Audit.{onLength, onValidity}
 use Rattle.table.specs.Calls.{Ground, verdict}

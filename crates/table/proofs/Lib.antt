@@ -1,4 +1,4 @@
-pub mod Cases
 pub mod Records
 pub mod Words
 pub mod Stores
+pub mod Dimensions

@@ -9,11 +9,12 @@ use borrow.Author.Tests.{eq-eqb, ne-eqb, lt-ltb, le-ltb}
 use lib.Dec.{eqb, ltb}
 use lib.ListN.{length, getD, set, length-set}
 use lib.Seq.{getD-set-same, getD-set-other}
-use Rattle.table.specs.Kind.{faces, width, pick}
+use Rattle.counting.specs.Counting.{pick}
+use Rattle.table.specs.Kind.{faces, width}
 use Rattle.table.specs.Table.{cellsOf, dim, face}
 use Rattle.table.specs.Words.{tableOf}
 use Rattle.table.specs.Stores.{Stored}
-use Rattle.table.proofs.Cases.{below-or-not, same-or-other}
+use Rattle.counting.proofs.Cases.{below-or-not, same-or-other}
 use Rattle.table.proofs.Words.{length-tableOf, dim-tableOf, face-tableOf, table-by-records}
 
 -- the faces of record c with x at place j

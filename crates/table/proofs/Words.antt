@@ -10,7 +10,8 @@ use borrow.Author.Tests.{eq-eqb, ne-eqb}
 use lib.ListN.{length, getD}
 use lib.Seq.{ext-getD}
 use lib.Dec.{eqb}
-use Rattle.table.specs.Kind.{width, faces, pick}
+use Rattle.counting.specs.Counting.{pick}
+use Rattle.table.specs.Kind.{width, faces}
 use Rattle.table.specs.Table.{cellsOf, dim, face}
 use Rattle.table.specs.Words.{listed, wordOf, tableOf}
 

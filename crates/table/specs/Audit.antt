@@ -5,7 +5,8 @@ use mathlib.Core.Bool.{Bool, true, false, _&&_, _||_, not}
 use mathlib.Core.List.{List, [], _∷_}
 use Prim.Native.Nat.{ℕ, zero, suc, _+_, _-_, _≤_, _<_}
 use lib.Dec.{leb, ltb, eqb}
-use Rattle.table.specs.Kind.{capacity, top, faces, width, freeMark, pick, used}
+use Rattle.counting.specs.Counting.{pick}
+use Rattle.table.specs.Kind.{capacity, top, faces, width, freeMark, used}
 use Rattle.table.specs.Table.{cellsOf, dim, face, sizedCells}
 use Rattle.table.specs.Calls.{Ground}
 use Rattle.table.specs.declared.Refusal.the-variants.{Length, Invalid}

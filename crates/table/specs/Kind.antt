@@ -1,8 +1,8 @@
 -- The numbers of the table kind, each named once, and how many face words a record uses.
 -- A reader must believe these definitions; nothing here is proved.
-use mathlib.Core.Bool.{Bool, true, false}
 use Prim.Native.Nat.{ℕ, _+_}
 use lib.Dec.{leb, eqb}
+use Rattle.counting.specs.Counting.{pick}
 
 -- the most cells that a table has room for
 abbrev pub capacity : ℕ
@@ -23,10 +23,6 @@ width = faces + 1
 -- what stands in every word of a free record, and in the unused words of a live one
 abbrev pub freeMark : ℕ
 freeMark = 65535
-
-abbrev pub pick {ℓ} : {A : Type ℓ} → Bool → A → A → A
-pick true a b = a
-pick false a b = b
 
 -- A p-cell with p from 1 to 6 has p + 1 faces. A 0-cell has none, and a word 0 above 6 is no dimension.
 abbrev pub used : ℕ → ℕ

@@ -8,7 +8,8 @@ use mathlib.Core.List.{List, [], _∷_}
 use Prim.Native.Nat.{ℕ, suc, _+_, _-_, _*_, _/_, _%_, _≤_, _<_}
 use lib.ListN.{length, getD}
 use lib.Dec.{leb, ltb, eqb}
-use Rattle.table.specs.Kind.{capacity, top, faces, width, freeMark, pick, used}
+use Rattle.counting.specs.Counting.{pick}
+use Rattle.table.specs.Kind.{capacity, top, faces, width, freeMark, used}
 
 -- how many records the words hold
 abbrev pub cellsOf : List ℕ → ℕ

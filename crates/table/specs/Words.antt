@@ -4,7 +4,8 @@
 use mathlib.Core.List.{List, [], _∷_}
 use Prim.Native.Nat.{ℕ, zero, suc, _-_, _*_, _/_, _%_}
 use lib.Dec.{eqb}
-use Rattle.table.specs.Kind.{width, pick}
+use Rattle.counting.specs.Counting.{pick}
+use Rattle.table.specs.Kind.{width}
 
 -- the list f 0, f 1, .. of n numbers
 unfoldable pub listed : ℕ → (ℕ → ℕ) → List ℕ

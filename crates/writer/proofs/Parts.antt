@@ -6,9 +6,10 @@ use mathlib.Core.List.{List, [], _++_}
 use Prim.Native.Nat.{ℕ, _+_, _≤_, _<_}
 use native.Mathlib.Omega.{arith}
 use lib.ListN.{length, length-append}
-use Rattle.table.specs.Kind.{top, pick, used}
+use Rattle.counting.specs.Counting.{pick}
+use Rattle.table.specs.Kind.{top, used}
 use Rattle.table.specs.Table.{cellsOf, dim, face, isCell}
-use Rattle.counting.proofs.Tallies.{other-dimension}
+use Rattle.table.proofs.Dimensions.{other-dimension}
 use Rattle.sketch.specs.Form.{two, four, pieces, dimensions, bodyStart}
 use Rattle.sketch.specs.Written.{countOf, cellBytes, bodyOf, contentsOf, fileOf}
 use Rattle.sketch.proofs.Bytes.{length-two, length-four}

@@ -7,7 +7,7 @@ use native.Mathlib.Omega.{arith}
 use lib.ListN.{length, getD}
 use Rattle.table.specs.Table.{cellsOf, Sized}
 use Rattle.counting.specs.Counting.{howMany}
-use Rattle.counting.proofs.Tallies.{Tally, isCellAt}
+use Rattle.counting.proofs.Tallies.{Tally}
 use Rattle.sketch.specs.Form.{dimensions, contentsSize, recordSize, bodyStart}
 use Rattle.table.specs.Table.{isCell}
 use Rattle.sketch.specs.Written.{countOf, fileOf}
@@ -16,7 +16,7 @@ use Rattle.sketch.proofs.Sizes.{bodyStart-more, bodyStart-grows, length-file, s
 use Rattle.writer.specs.Put.{Counted, inArray, longest}
 
 -- the array after the last cell
-pub all-counted : (t counts : List ℕ) (c : ℕ) → c ≡ cellsOf t → Tally dimensions (isCellAt t) c counts → Counted t counts
+pub all-counted : (t counts : List ℕ) (c : ℕ) → c ≡ cellsOf t → Tally dimensions (isCell t) c counts → Counted t counts
 unfolding isCell countOf
 all-counted t counts c e h = record { each = λ p l. h .each p l ∙ ap (howMany (isCell t p)) e }
 

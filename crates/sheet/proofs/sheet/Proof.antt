@@ -2,7 +2,7 @@
 use borrow.Author.Needs.{needs}
 use mathlib.Core.Path.{_≡_, sym, _∙_}
 use mathlib.Core.Bool.{Bool, true, false}
-use Rattle.table.specs.Kind.{pick}
+use Rattle.counting.specs.Counting.{pick}
 use Rattle.audit.proofs.Valid.{audit-accepts-iff-valid}
 use Rattle.sheet.specs.Sheet.{sheetAnswer}
 use Rattle.sheet.specs.declared.Judged.the-variants.{Yes, No}

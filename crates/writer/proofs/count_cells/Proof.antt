@@ -5,14 +5,16 @@ use mathlib.Core.Logic.{⊎-elim}
 use Prim.Native.Nat.{_-_, _≤_}
 use native.Mathlib.Omega.{arith}
 use borrow.Author.Needs.{needs}
-use Rattle.counting.proofs.Tallies.{Tally, isCellAt, tally-none, tally-most, cell-counted, free-skipped}
+use Rattle.counting.proofs.Tallies.{Tally, tally-none, tally-most}
+use Rattle.table.proofs.Dimensions.{cell-counted, free-skipped}
+use Rattle.table.specs.Table.{isCell}
 use Rattle.sketch.specs.Form.{dimensions}
 use Rattle.writer.proofs.Starts.{all-counted}
 use Rattle.writer.proofs.count_cells.Statement.{statement}
 use Rattle.writer.proofs.count_cells.Tie as tie
 
 abbrev Inv-loop : tie.InvT-loop
-Inv-loop t n counts₀ c₀ counts c = (c ≤ n) × Tally dimensions (isCellAt t) c counts
+Inv-loop t n counts₀ c₀ counts c = (c ≤ n) × Tally dimensions (isCell t) c counts
 
 abbrev μ-loop : tie.MeasureT-loop
 μ-loop t n counts₀ c₀ counts c = n - c
