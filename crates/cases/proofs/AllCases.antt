@@ -5,9 +5,9 @@ use mathlib.Core.List.{List}
 use Prim.Native.Nat.{ℕ, zero, suc, _<_}
 use native.Mathlib.Omega.{arith}
 use lib.ListN.{length, getD}
-use Rattle.homology.specs.Cells.{odd, count}
+use Rattle.homology.specs.Cells.{odd}
 use Rattle.homology.specs.Holes.{boundary}
-use Rattle.homology.specs.Evidence.{any, cellsIn, boundingIn, holesIn}
+use Rattle.homology.specs.Evidence.{cellsIn, boundingIn, holesIn}
 use Rattle.bitset.specs.Bits.{digit, mark, member, toggled, sumOf}
 use Rattle.counting.specs.Counting.{howMany, nth, someHas}
 use Rattle.table.specs.Table.{live}
@@ -30,7 +30,7 @@ use Rattle.cases.proofs.Tested.{every, validWords, goes, holesAre, inci
 
 -- one computation for each entry, in order, so that a refusal names the entry
 each-case-passes : Each Passes cases
-unfolding cases every test validWords goes holesAre incidenceIs additionsAre numbersAre sameWords sameInteger isSum sameAnswer odd count boundary any cellsIn boundingIn holesIn digit mark member toggled sumOf howMany nth someHas live listed wordOf tableOf all scan recordSound faceSound lawSound recordBreach faceBreach lawBreach cellBreach firstBreach sized sound oddFace rowOf rows alone additionsIn highestBelow boundaryHeight owner afterSearch addRows nextRow withRow rowsBelow reducedEvidence reducedAdditions renamed identify sameFaces mergeVerdict merged free apexOf coneOf baseOf newCells coneFace coned markedNotLive notClosed topMarked noRoom coneVerdict sumTo sign incidenceOf
+unfolding cases every test validWords goes holesAre incidenceIs additionsAre numbersAre sameWords sameInteger isSum sameAnswer odd howMany boundary someHas cellsIn boundingIn holesIn digit mark member toggled sumOf nth live listed wordOf tableOf all scan recordSound faceSound lawSound recordBreach faceBreach lawBreach cellBreach firstBreach sized sound oddFace rowOf rows alone additionsIn highestBelow boundaryHeight owner afterSearch addRows nextRow withRow rowsBelow reducedEvidence reducedAdditions renamed identify sameFaces mergeVerdict merged free apexOf coneOf baseOf newCells coneFace coned markedNotLive notClosed topMarked noRoom coneVerdict sumTo sign incidenceOf
 each-case-passes =
     refl  -- 1
     then refl  -- 2

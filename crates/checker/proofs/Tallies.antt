@@ -12,10 +12,10 @@ use borrow.Author.Tests.{eq-eqb, ne-eqb}
 use lib.Dec.{eqb}
 use lib.ListN.{length, getD, set, replicate, length-set}
 use lib.Seq.{ext-getD, getD-set-same, getD-set-other}
-use Rattle.homology.specs.Cells.{count, markOf}
-use Rattle.homology.specs.Evidence.{any, cellsIn, boundingIn}
+use Rattle.counting.specs.Counting.{howMany, someHas}
+use Rattle.counting.proofs.Counting.{howMany-most, howMany-no, howMany-yes}
+use Rattle.homology.specs.Evidence.{cellsIn, boundingIn}
 use Rattle.homology.proofs.Marks.{by-mark, both, &&-off}
-use Rattle.homology.proofs.Counting.{count-step-on, count-step-off}
 use Rattle.homology.proofs.Chains.{boundary-member}
 use Rattle.table.specs.Kind.{top}
 use Rattle.table.specs.Table.{cellsOf, dim, live, Live, Valid}
@@ -38,21 +38,14 @@ zeros-at zero p = refl
 zeros-at (suc m) zero = refl
 zeros-at (suc m) (suc p) = zeros-at m p
 
-count-most : (f : ℕ → Bool) (n : ℕ) → count n f ≤ n
-unfolding count
-count-most f zero = omega arith
-count-most f (suc n) = by-mark (f n)
-    (λ e. omega (arith, count-most f n, ap markOf e))
-    (λ e. omega (arith, count-most f n, ap markOf e))
-
 -- place p of xs, below m, counts the numbers below c that have f p
 pub record Tally (m : ℕ) (f : ℕ → ℕ → Bool) (c : ℕ) (xs : List ℕ) : Type 0 where
   pub long : length xs ≡ m
-  pub each : (p : ℕ) → p < m → getD xs p 0 ≡ count c (f p)
+  pub each : (p : ℕ) → p < m → getD xs p 0 ≡ howMany (f p) c
 
 module _ (m : ℕ) (f : ℕ → ℕ → Bool) where
   pub tally-none : Tally m f 0 (replicate m 0)
-  unfolding count
+  unfolding howMany
   tally-none = record { long = length-zeros m; each = λ p h. zeros-at m p }
     where
       length-zeros : (k : ℕ) → length {A = ℕ} (replicate k 0) ≡ k
@@ -60,28 +53,28 @@ module _ (m : ℕ) (f : ℕ → ℕ → Bool) where
       length-zeros (suc k) = ap suc (length-zeros k)
 
   pub tally-small : (c : ℕ) (xs : List ℕ) (p : ℕ) → p < m → Tally m f c xs → getD xs p 0 ≤ c
-  tally-small c xs p h k = omega (arith, k .each p h, count-most (f p) c)
+  tally-small c xs p h k = omega (arith, k .each p h, howMany-most (f p) c)
 
   tally-skip : (c : ℕ) (xs : List ℕ) → Tally m f c xs → ((p : ℕ) → f p c ≡ false) → Tally m f (c + 1) xs
   tally-skip c xs k off = record {
     long = k .long;
-    each = λ p h. rw (add-one c) (k .each p h ∙ sym (count-step-off c (f p) (off p)));
+    each = λ p h. rw (add-one c) (k .each p h ∙ sym (howMany-no (f p) c (off p)));
   }
 
   tally-one : (c q : ℕ) (xs : List ℕ) → q < m → Tally m f c xs → f q c ≡ true → ((p : ℕ) → (p ≡ q → ⊥) → f p c ≡ false) → Tally m f (c + 1) (set xs q (getD xs q 0 + 1))
   tally-one c q xs l k on off = record {
     long = length-set xs q (getD xs q 0 + 1) ∙ k .long;
     each = λ p h. rw (add-one c) (by-cases (ℕ-discrete p q)
-        (λ e. subst (λ (i : ℕ). getD (set xs q (getD xs q 0 + 1)) i 0 ≡ count (suc c) (f i)) (sym e)
+        (λ e. subst (λ (i : ℕ). getD (set xs q (getD xs q 0 + 1)) i 0 ≡ howMany (f i) (suc c)) (sym e)
         (getD-set-same xs q (getD xs q 0 + 1) 0 (omega (arith, k .long))
-        ∙ add-one (getD xs q 0) ∙ ap suc (k .each q l) ∙ sym (count-step-on c (f q) on)))
-        (λ ne. getD-set-other xs q p (getD xs q 0 + 1) 0 ne ∙ k .each p h ∙ sym (count-step-off c (f p) (off p ne))));
+        ∙ add-one (getD xs q 0) ∙ ap suc (k .each q l) ∙ sym (howMany-yes (f q) c on)))
+        (λ ne. getD-set-other xs q p (getD xs q 0 + 1) 0 ne ∙ k .each p h ∙ sym (howMany-no (f p) c (off p ne))));
   }
 
   -- the whole list, where the numbers below n are counted
-  pub tally-listed : (n : ℕ) (xs : List ℕ) → Tally m f n xs → xs ≡ listed m (λ p. count n (f p))
-  tally-listed n xs k = ext-getD 0 xs (listed m (λ p. count n (f p))) (k .long ∙ sym (length-listed m (λ p. count n (f p))))
-      (λ p h. let l : p < m = omega (arith, k .long) in k .each p l ∙ sym (getD-listed m (λ q. count n (f q)) p l))
+  pub tally-listed : (n : ℕ) (xs : List ℕ) → Tally m f n xs → xs ≡ listed m (λ p. howMany (f p) n)
+  tally-listed n xs k = ext-getD 0 xs (listed m (λ p. howMany (f p) n)) (k .long ∙ sym (length-listed m (λ p. howMany (f p) n)))
+      (λ p h. let l : p < m = omega (arith, k .long) in k .each p l ∙ sym (getD-listed m (λ q. howMany (f q) n) p l))
 
 -- ---- the live cells
 
@@ -111,7 +104,7 @@ cells-listed t m n xs e k = tally-listed m (isCellAt t) (cellsOf t) xs (subst (�
 -- ---- the rows with a boundary
 
 abbrev pub isBoundingAt : List ℕ → List ℕ → ℕ → ℕ → Bool
-isBoundingAt t ev p c = isCellAt t p c && any (cellsOf t) (rowBoundary t ev c)
+isBoundingAt t ev p c = isCellAt t p c && someHas (rowBoundary t ev c) (cellsOf t)
 
 module _ (t ev : List ℕ) (v : Valid t) (long : length ev ≡ evidenceWords t) (c : ℕ) (inside : c < cellsOf t) where
   -- a row with a boundary belongs to a live cell
@@ -123,7 +116,7 @@ module _ (t ev : List ℕ) (v : Valid t) (long : length ev ≡ evidenceWords t) 
   pub row-counted : (n m p : ℕ) (xs : List ℕ) → keepsA t ev c ≡ true → rowTop t ev c ≡ suc m → p ≡ dim t c → p < n → Tally n (isBoundingAt t ev) c xs → Tally n (isBoundingAt t ev) (c + 1) (set xs p (getD xs p 0 + 1))
   row-counted n m p xs a e g l k = tally-one n (isBoundingAt t ev) c p xs l k
       (both (subst (λ (q : ℕ). isCellAt t q c ≡ true) (sym g) (own-dimension t c (bounding-live m a e))) (any-on-top (rowBoundary t ev c) (cellsOf t) m e))
-      (λ q ne. ap (λ (b : Bool). b && any (cellsOf t) (rowBoundary t ev c)) (other-dimension t c q (λ z. ne (z ∙ sym g))))
+      (λ q ne. ap (λ (b : Bool). b && someHas (rowBoundary t ev c) (cellsOf t)) (other-dimension t c q (λ z. ne (z ∙ sym g))))
 
 pub row-skipped : (t ev : List ℕ) (c n : ℕ) (xs : List ℕ) → rowTop t ev c ≡ 0 → Tally n (isBoundingAt t ev) c xs → Tally n (isBoundingAt t ev) (c + 1) xs
 row-skipped t ev c n xs e k = tally-skip n (isBoundingAt t ev) c xs k
@@ -132,7 +125,7 @@ row-skipped t ev c n xs e k = tally-skip n (isBoundingAt t ev) c xs k
 -- the counters after the last row
 pub rows-counted : (t ev : List ℕ) (m n : ℕ) (xs : List ℕ) → n ≡ cellsOf t → Tally m (isBoundingAt t ev) n xs → (p : ℕ) → p < m → getD xs p 0 ≡ boundingIn (cells t) (rows t ev) p
 unfolding boundingIn
-rows-counted t ev m n xs e k p h = k .each p h ∙ ap (λ (i : ℕ). count i (isBoundingAt t ev p)) e
+rows-counted t ev m n xs e k p h = k .each p h ∙ ap (λ (i : ℕ). howMany (isBoundingAt t ev p) i) e
 
 -- ---- the differences
 

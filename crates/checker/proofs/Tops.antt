@@ -5,8 +5,9 @@ use mathlib.Core.Bool.{Bool, true, false, _||_}
 use Prim.Native.Nat.{ℕ, zero, suc, _≤_, _<_}
 use native.Mathlib.Nat.{suc-inj}
 use native.Mathlib.Omega.{arith}
+use Rattle.counting.specs.Counting.{someHas}
 use Rattle.homology.specs.Holes.{Chain}
-use Rattle.homology.specs.Evidence.{IsLargest, any}
+use Rattle.homology.specs.Evidence.{IsLargest}
 use Rattle.homology.proofs.Marks.{by-mark, by-order}
 use Rattle.homology.proofs.Tops.{Below, Empty, below-less}
 use Rattle.checker.specs.Check.{topBelow}
@@ -45,16 +46,16 @@ off-right : (a : Bool) → (a || false) ≡ a
 off-right true = refl
 off-right false = refl
 
-pub any-on-top : (x : Chain) (n m : ℕ) → topBelow x n ≡ suc m → any n x ≡ true
-unfolding topBelow any
+pub any-on-top : (x : Chain) (n m : ℕ) → topBelow x n ≡ suc m → someHas x n ≡ true
+unfolding topBelow someHas
 any-on-top x zero m e = absurd (omega arith)
 any-on-top x (suc n) m e = by-mark (x n)
-    (λ g. rw g (on-right (any n x)))
-    (λ g. rw g (off-right (any n x) ∙ any-on-top x n m (rw g at e)))
+    (λ g. rw g (on-right (someHas x n)))
+    (λ g. rw g (off-right (someHas x n) ∙ any-on-top x n m (rw g at e)))
 
-pub any-off-top : (x : Chain) (n : ℕ) → topBelow x n ≡ 0 → any n x ≡ false
-unfolding topBelow any
+pub any-off-top : (x : Chain) (n : ℕ) → topBelow x n ≡ 0 → someHas x n ≡ false
+unfolding topBelow someHas
 any-off-top x zero e = refl
 any-off-top x (suc n) e = by-mark (x n)
     (λ g. let z : suc n ≡ 0 = rw g at e in absurd (omega arith))
-    (λ g. rw g (off-right (any n x) ∙ any-off-top x n (rw g at e)))
+    (λ g. rw g (off-right (someHas x n) ∙ any-off-top x n (rw g at e)))

@@ -208,3 +208,14 @@ module _ (f : ℕ → Bool) where
       go : (someHas f n ≡ true) ⊎ (someHas f n ≡ false) → (someHas f n ≡ true → (k : ℕ) × (k < n) × (f k ≡ true)) → (k : ℕ) × (k < suc n) × (f k ≡ true)
       go (inl i) below = found (below i)
       go (inr i) below = (n, omega arith, rw i at e)
+
+-- two tests that agree below n count the same there
+pub howMany-alike : (f g : ℕ → Bool) (n : ℕ) → ((c : ℕ) → c < n → f c ≡ g c) → howMany f n ≡ howMany g n
+unfolding howMany
+howMany-alike f g zero h = refl
+howMany-alike f g (suc n) h =
+    omega (arith, howMany-alike f g n (λ c l. h c (omega arith)), ap (λ b. pick {A = ℕ} b 1 0) (h n (omega arith)))
+
+pub howMany-none : (f : ℕ → Bool) (n : ℕ) → ((c : ℕ) → c < n → f c ≡ false) → howMany f n ≡ 0
+howMany-none f zero h = howMany-zero f
+howMany-none f (suc n) h = howMany-no f n (h n (omega arith)) ∙ howMany-none f n (λ c l. h c (omega arith))

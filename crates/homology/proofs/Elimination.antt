@@ -8,11 +8,12 @@ use mathlib.Core.List.{List, [], _∷_, map}
 use Prim.Native.Nat.{ℕ, zero, suc, _≤_}
 use native.Mathlib.Omega.{arith}
 use lib.ListN.{length, replicate, length-replicate, length-map}
-use Rattle.homology.specs.Cells.{Cells, Lawful, count, _⊻_}
+use Rattle.counting.specs.Counting.{howMany}
+use Rattle.counting.proofs.Counting.{howMany-no, howMany-yes}
+use Rattle.homology.specs.Cells.{Cells, Lawful, _⊻_}
 use Rattle.homology.specs.Holes.{Chain, none, picked, chosen, boundary, IsCycle, IsBoundary, Independent}
 use Rattle.homology.specs.Evidence.{Rows, Meets}
 use Rattle.homology.proofs.Marks.{by-mark, clash, off-unless, both, on-of-off, &&-off, ⊻-back}
-use Rattle.homology.proofs.Counting.{count-step-on, count-step-off}
 use Rattle.homology.proofs.Chains.{boundary-none, boundary-closed, none-chain, sum-cycle, sum-boundary, taken-boundary}
 use Rattle.homology.proofs.Tops.{Below, Empty, below-less}
 use Rattle.homology.proofs.ChainKinds.{chain-cell, chain-below, row-chain, cycle-top}
@@ -78,19 +79,19 @@ module _ (K : Cells) (law : Lawful K) (rows : Rows) (meets : Meets K rows) (p : 
         (cycle-top K law rows meets p x m (h .0) (record { member = g; above = h .1 }))) (on-of-off f)) e)),
   )
 
-  at-most : (m : ℕ) (xs : List Chain) → Every (Short K p m) xs → Apart K p xs → length xs ≤ count m (isHole K rows p)
-  unfolding count
+  at-most : (m : ℕ) (xs : List Chain) → Every (Short K p m) xs → Apart K p xs → length xs ≤ howMany (isHole K rows p) m
+  unfolding howMany
   at-most zero xs a h = no-empty K p xs (every-so (Short K p 0) Empty (λ x g s. g .1 s (omega arith)) xs a) h
   at-most (suc m) xs a h = by-mark (isHole K rows p m)
       (λ e. let v = pivot m xs in
       let less = pivoted-every (Short K p (suc m)) (Short K p m) (cleared-short K p m)
       (λ x g off. (g .0, below-less m x (g .1) off)) (v .1) a in
-      omega (arith, count-step-on m (isHole K rows p) e, pivoted-length (v .1), at-most m (v .0) less (pivoted-apart K p (v .1) h)))
+      omega (arith, howMany-yes (isHole K rows p) m e, pivoted-length (v .1), at-most m (v .0) less (pivoted-apart K p (v .1) h)))
       (λ e. by-mark (isFilled K rows p m)
       (λ f. let z = filler m f in
       omega (
         arith,
-        count-step-off m (isHole K rows p) e,
+        howMany-no (isHole K rows p) m e,
         length-map xs (cleared m (z .0)),
         at-most m (map (cleared m (z .0)) xs)
             (every-map (Short K p (suc m)) (Short K p m) (cleared m (z .0)) (λ x g. cleared-short K p m (z .0) x (z .3) (z .1) g) xs a)
@@ -98,11 +99,11 @@ module _ (K : Cells) (law : Lawful K) (rows : Rows) (meets : Meets K rows) (p : 
       ))
       (λ f. omega (
         arith,
-        count-step-off m (isHole K rows p) e,
+        howMany-no (isHole K rows p) m e,
         at-most m xs (every-so (Short K p (suc m)) (Short K p m) (never-top m e f) xs a) h,
       )))
 
-  pub no-more-holes : (xs : List Chain) → Independent K p xs → length xs ≤ count (K .size) (isHole K rows p)
+  pub no-more-holes : (xs : List Chain) → Independent K p xs → length xs ≤ howMany (isHole K rows p) (K .size)
   no-more-holes xs h = at-most (K .size) xs
       (every-so (IsCycle K p) (Short K p (K .size)) (λ x g. (g, chain-below (g .chain))) xs (at-every (IsCycle K p) xs (h .cycles)))
       (h .apart)

@@ -7,18 +7,20 @@ use mathlib.Core.Bool.{Bool, true, not, _&&_}
 use mathlib.Core.Logic.{_⊎_, inl, inr}
 use Prim.Native.Nat.{ℕ, suc, _+_, _<_}
 use native.Mathlib.Omega.{arith}
-use Rattle.homology.specs.Cells.{Cells, Lawful, count}
+use Rattle.counting.specs.Counting.{howMany, someHas}
+use Rattle.counting.proofs.Counting.{someHas-at, someHas-none, someHas-one}
+use Rattle.homology.specs.Cells.{Cells, Lawful}
 use Rattle.homology.specs.Holes.{Chain, boundary, IsCycle}
-use Rattle.homology.specs.Evidence.{Rows, IsLargest, RuleB, Meets, any, cellsIn, boundingIn}
+use Rattle.homology.specs.Evidence.{Rows, IsLargest, RuleB, Meets, cellsIn, boundingIn}
 use Rattle.homology.proofs.Marks.{by-order, clash, both, left-on, right-on, on-of-off}
-use Rattle.homology.proofs.Counting.{any-member, any-from, any-none, count-split, count-inject}
+use Rattle.homology.proofs.Counting.{count-split, count-inject}
 use Rattle.homology.proofs.Chains.{boundary-below, boundary-closed}
 use Rattle.homology.proofs.Tops.{Empty, largest, largest-unique, isTop, top-largest, largest-top}
 use Rattle.homology.proofs.ChainKinds.{isCell, chain-cell, row-chain, cycle-top}
 
 -- row c has a non-empty boundary
 abbrev pub isBounding : Cells → Rows → ℕ → Bool
-isBounding K rows c = any (K .size) (boundary K (rows c))
+isBounding K rows c = someHas (boundary K (rows c)) (K .size)
 
 -- a live p-cell whose row is closed
 abbrev pub isClosed : Cells → Rows → ℕ → ℕ → Bool
@@ -26,19 +28,19 @@ isClosed K rows p c = isCell K p c && not (isBounding K rows c)
 
 -- the largest cell of the boundary of a (p+1)-cell's row
 unfoldable pub isFilled : Cells → Rows → ℕ → ℕ → Bool
-isFilled K rows p t = any (K .size) (λ c. isCell K (suc p) c && isTop (K .size) (boundary K (rows c)) t)
+isFilled K rows p t = someHas (λ c. isCell K (suc p) c && isTop (K .size) (boundary K (rows c)) t) (K .size)
 
 abbrev pub isHole : Cells → Rows → ℕ → ℕ → Bool
 isHole K rows p c = isClosed K rows p c && not (isFilled K rows p c)
 
 pub closed-cell : (K : Cells) (rows : Rows) (p c : ℕ) → isCell K p c ≡ true → Empty (boundary K (rows c)) → isClosed K rows p c ≡ true
-closed-cell K rows p c cell h = both cell (on-of-off (any-none (K .size) (boundary K (rows c)) h))
+closed-cell K rows p c cell h = both cell (on-of-off (someHas-none (boundary K (rows c)) (K .size) (λ k l. h k)))
 
 module _ (K : Cells) (law : Lawful K) (rows : Rows) where
   pub filled-row : (p t : ℕ) → isFilled K rows p t ≡ true → (c : ℕ) × (c < K .size) × (isCell K (suc p) c ≡ true) × IsLargest (boundary K (rows c)) t
   unfolding isFilled
   filled-row p t e =
-      let r = any-member (K .size) (λ c. isCell K (suc p) c && isTop (K .size) (boundary K (rows c)) t) e in
+      let r = someHas-one (λ c. isCell K (suc p) c && isTop (K .size) (boundary K (rows c)) t) (K .size) e in
       let x = boundary K (rows (r .0)) in (
         r .0,
         r .1,
@@ -48,7 +50,7 @@ module _ (K : Cells) (law : Lawful K) (rows : Rows) where
 
   pub row-filled : (p t c : ℕ) → t < K .size → c < K .size → isCell K (suc p) c ≡ true → IsLargest (boundary K (rows c)) t → isFilled K rows p t ≡ true
   unfolding isFilled
-  row-filled p t c l g cell h = any-from (K .size) (λ s. isCell K (suc p) s && isTop (K .size) (boundary K (rows s)) t) c g
+  row-filled p t c l g cell h = someHas-at (λ s. isCell K (suc p) s && isTop (K .size) (boundary K (rows s)) t) (K .size) c g
       (both cell (largest-top (K .size) (boundary K (rows c)) t l h))
 
 module _ (K : Cells) (law : Lawful K) (rows : Rows) (meets : Meets K rows) (p : ℕ) where
@@ -82,7 +84,7 @@ module _ (K : Cells) (law : Lawful K) (rows : Rows) (meets : Meets K rows) (p : 
       cyc = boundary-closed K law (row-chain K rows meets (suc p) c l cell)
 
       go : Empty x ⊎ ((t : ℕ) × IsLargest x t) → (t : ℕ) × (t < K .size) × (isRim t ≡ true) × Fills c t
-      go (inl h) = clash (right-on (isCell K (suc p) c) (isBounding K rows c) e) (any-none (K .size) x h)
+      go (inl h) = clash (right-on (isCell K (suc p) c) (isBounding K rows c) e) (someHas-none x (K .size) (λ k l. h k))
       go (inr r) = let t = r .0 in
           let below : t < K .size = cyc .chain .below t (r .1 .member) in (
             t,
@@ -94,9 +96,9 @@ module _ (K : Cells) (law : Lawful K) (rows : Rows) (meets : Meets K rows) (p : 
 
   lid-of-rim : (t : ℕ) → t < K .size → isRim t ≡ true → (c : ℕ) × (c < K .size) × (isLid c ≡ true) × Fills c t
   lid-of-rim t l e = let r = filled-row K law rows p t (right-on (isClosed K rows p t) (isFilled K rows p t) e) in
-      (r .0, r .1, both (r .2) (any-from (K .size) (boundary K (rows (r .0))) t l (r .3 .member)), (r .1, r .3))
+      (r .0, r .1, both (r .2) (someHas-at (boundary K (rows (r .0))) (K .size) t l (r .3 .member)), (r .1, r .3))
 
-  rims-are-lids : count (K .size) isRim ≡ boundingIn K rows (suc p)
+  rims-are-lids : howMany isRim (K .size) ≡ boundingIn K rows (suc p)
   unfolding boundingIn
   rims-are-lids = omega (
     arith,
@@ -104,7 +106,7 @@ module _ (K : Cells) (law : Lawful K) (rows : Rows) (meets : Meets K rows) (p : 
     count-inject (λ t c. Fills c t) (λ t s c h g. largest-unique (h .1) (g .1)) (K .size) (K .size) isRim isLid lid-of-rim,
   )
 
-  pub cells-add-up : cellsIn K p ≡ boundingIn K rows p + (boundingIn K rows (suc p) + count (K .size) (isHole K rows p))
+  pub cells-add-up : cellsIn K p ≡ boundingIn K rows p + (boundingIn K rows (suc p) + howMany (isHole K rows p) (K .size))
   unfolding cellsIn boundingIn
   cells-add-up = omega (
     arith,

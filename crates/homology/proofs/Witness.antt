@@ -7,11 +7,12 @@ use mathlib.Core.List.{List, [], _∷_}
 use Prim.Native.Nat.{ℕ, zero, suc, _≤_, _<_}
 use native.Mathlib.Omega.{arith}
 use lib.ListN.{length}
-use Rattle.homology.specs.Cells.{Cells, Lawful, count, _⊻_}
+use Rattle.counting.specs.Counting.{howMany}
+use Rattle.counting.proofs.Counting.{howMany-no, howMany-yes, someHas-at}
+use Rattle.homology.specs.Cells.{Cells, Lawful, _⊻_}
 use Rattle.homology.specs.Holes.{Chain, picked, chosen, boundary, IsCycle, IsBoundary, Independent}
 use Rattle.homology.specs.Evidence.{Rows, IsLargest, Meets}
 use Rattle.homology.proofs.Marks.{by-mark, clash, off-unless, left-on, right-on, not-on, &&-off, off-⊻}
-use Rattle.homology.proofs.Counting.{any-from, count-step-on, count-step-off}
 use Rattle.homology.proofs.Chains.{boundary-member}
 use Rattle.homology.proofs.Tops.{Below, member-below, largest-cong, over-largest}
 use Rattle.homology.proofs.ChainKinds.{isCell, row-largest, row-chain, boundary-top}
@@ -20,7 +21,7 @@ use Rattle.homology.proofs.Selections.{Every, every-at}
 
 -- what a list of chains from hole cells below m is known by
 record Found (K : Cells) (rows : Rows) (p m : ℕ) (xs : List Chain) : Type 0 where
-  long : length xs ≡ count m (isHole K rows p)
+  long : length xs ≡ howMany (isHole K rows p) m
   cycles : Every (IsCycle K p) xs
   ends : (s : List Bool) → Below m (picked s xs)
   tops : (s : List Bool) → length s ≡ length xs → chosen s ≡ true → (c : ℕ) × (isHole K rows p c ≡ true) × IsLargest (picked s xs) c
@@ -40,7 +41,7 @@ module _ (K : Cells) (law : Lawful K) (rows : Rows) (meets : Meets K rows) (p : 
   hole-cycle : (c : ℕ) → c < K .size → isHole K rows p c ≡ true → IsCycle K p (rows c)
   hole-cycle c l e = record {
     chain = row-chain K rows meets p c l (hole-cell c e);
-    closed = λ t. off-unless (boundary K (rows c) t) (λ h. clash (any-from (K .size) (boundary K (rows c)) t (near t h) h) quiet);
+    closed = λ t. off-unless (boundary K (rows c) t) (λ h. clash (someHas-at (boundary K (rows c)) (K .size) t (near t h) h) quiet);
   }
     where
       near : (t : ℕ) → boundary K (rows c) t ≡ true → t < K .size
@@ -59,7 +60,7 @@ module _ (K : Cells) (law : Lawful K) (rows : Rows) (meets : Meets K rows) (p : 
       (r .0, r .1, largest-cong (λ c. sym (off-⊻ (picked s xs c))) (r .2))
 
   found : (m : ℕ) → m ≤ K .size → (xs : List Chain) × Found K rows p m xs
-  unfolding picked chosen count
+  unfolding picked chosen howMany
   found zero l = ([], record { long = refl; cycles = tt; ends = nothing; tops = unpicked })
     where
       nothing : (s : List Bool) → Below 0 (picked s [])
@@ -73,7 +74,7 @@ module _ (K : Cells) (law : Lawful K) (rows : Rows) (meets : Meets K rows) (p : 
       (λ e. (
         rows m ∷ r .0,
         record {
-          long = ap suc (r .1 .long) ∙ sym (count-step-on m (isHole K rows p) e);
+          long = ap suc (r .1 .long) ∙ sym (howMany-yes (isHole K rows p) m e);
           cycles = (hole-cycle m l e, r .1 .cycles);
           ends = ends-more m (rows m) (r .0) ((row-largest K rows meets p m l (hole-cell m e)) .above) (r .1 .ends);
           tops = tops-more m (r .0) l e (r .1);
@@ -82,7 +83,7 @@ module _ (K : Cells) (law : Lawful K) (rows : Rows) (meets : Meets K rows) (p : 
       (λ e. (
         r .0,
         record {
-          long = r .1 .long ∙ sym (count-step-off m (isHole K rows p) e);
+          long = r .1 .long ∙ sym (howMany-no (isHole K rows p) m e);
           cycles = r .1 .cycles;
           ends = λ s c k. r .1 .ends s c (omega arith);
           tops = r .1 .tops;
@@ -98,6 +99,6 @@ module _ (K : Cells) (law : Lawful K) (rows : Rows) (meets : Meets K rows) (p : 
       let near : r .0 < K .size = member-below (K .size) (picked s xs) (f .ends s) (r .0) (r .2 .member) in
       clash (row-filled K law rows p (r .0) (q .0) near (q .1) (q .2) (q .3)) (hole-open (r .0) (r .1))
 
-  pub hole-rows : (xs : List Chain) × (length xs ≡ count (K .size) (isHole K rows p)) × Independent K p xs
+  pub hole-rows : (xs : List Chain) × (length xs ≡ howMany (isHole K rows p) (K .size)) × Independent K p xs
   hole-rows = let r = found (K .size) (omega arith) in
       (r .0, r .1 .long, record { cycles = every-at (IsCycle K p) (r .0) (r .1 .cycles); apart = not-bounding (r .0) (r .1) })

@@ -2,7 +2,7 @@
 -- A reader must believe these definitions; nothing here is proved, and nothing is assumed.
 use mathlib.Core.Path.{_≡_}
 use mathlib.Core.Bool.{Bool, true, false, _&&_}
-use Prim.Native.Nat.{ℕ, zero, suc, _+_, _<_}
+use Prim.Native.Nat.{ℕ, zero, suc, _<_}
 
 -- the sum of two marks mod 2
 infixl 30 _⊻_
@@ -12,19 +12,10 @@ true ⊻ false = true
 false ⊻ true = true
 false ⊻ false = false
 
-abbrev pub markOf : Bool → ℕ
-markOf true = 1
-markOf false = 0
-
 -- whether an odd number of the numbers below n have f
 unfoldable pub odd : ℕ → (ℕ → Bool) → Bool
 odd zero f = false
 odd (suc n) f = odd n f ⊻ f n
-
--- how many of the numbers below n have f
-unfoldable pub count : ℕ → (ℕ → Bool) → ℕ
-count zero f = 0
-count (suc n) f = count n f + markOf (f n)
 
 -- Cells have the numbers below size. Some numbers are live, each live one has a dimension, and inc c t says that cell c has
 -- cell t as a face an odd number of times.

@@ -1,10 +1,11 @@
 -- Evidence for hole numbers: one row of cells for each cell number, and the two printed rules, A and B.
 -- A reader must believe these definitions; nothing here is proved.
 use mathlib.Core.Path.{_≡_}
-use mathlib.Core.Bool.{Bool, true, false, _&&_, _||_}
-use Prim.Native.Nat.{ℕ, zero, suc, _+_, _-_, _≤_, _<_}
+use mathlib.Core.Bool.{Bool, true, false, _&&_}
+use Prim.Native.Nat.{ℕ, suc, _-_, _<_}
 use lib.Dec.{eqb}
-use Rattle.homology.specs.Cells.{Cells, count}
+use Rattle.counting.specs.Counting.{howMany, someHas}
+use Rattle.homology.specs.Cells.{Cells}
 use Rattle.homology.specs.Holes.{Chain, boundary}
 
 -- row c is a set of cells
@@ -33,18 +34,13 @@ pub record Meets (K : Cells) (rows : Rows) : Type 0 where
   pub rule-a : (c : ℕ) → c < K .size → RuleA K rows c
   pub rule-b : (c : ℕ) → c < K .size → RuleB K rows c
 
--- whether one of the numbers below n has f
-unfoldable pub any : ℕ → (ℕ → Bool) → Bool
-any zero f = false
-any (suc n) f = any n f || f n
-
 -- n_p, the number of live p-cells
 unfoldable pub cellsIn : Cells → ℕ → ℕ
-cellsIn K p = count (K .size) (λ c. K .live c && eqb (K .dim c) p)
+cellsIn K p = howMany (λ c. K .live c && eqb (K .dim c) p) (K .size)
 
 -- r_p, the number of live p-cells whose row has a non-empty boundary
 unfoldable pub boundingIn : Cells → Rows → ℕ → ℕ
-boundingIn K rows p = count (K .size) (λ c. (K .live c && eqb (K .dim c) p) && any (K .size) (boundary K (rows c)))
+boundingIn K rows p = howMany (λ c. (K .live c && eqb (K .dim c) p) && someHas (boundary K (rows c)) (K .size)) (K .size)
 
 -- b_p = n_p − r_p − r_(p+1)
 unfoldable pub holesIn : Cells → Rows → ℕ → ℕ

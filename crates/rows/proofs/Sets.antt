@@ -8,11 +8,12 @@ use Prim.Native.Nat.{ℕ, _/_, _<_}
 use native.Mathlib.Omega.{arith}
 use lib.Dec.{eqb}
 use lib.ListN.{replicate}
+use Rattle.counting.specs.Counting.{someHas}
+use Rattle.counting.proofs.Counting.{someHas-at, someHas-none}
 use Rattle.homology.specs.Cells.{_⊻_}
 use Rattle.homology.specs.Holes.{Chain, none, sum}
-use Rattle.homology.specs.Evidence.{IsLargest, any}
+use Rattle.homology.specs.Evidence.{IsLargest}
 use Rattle.homology.proofs.Marks.{by-mark}
-use Rattle.homology.proofs.Counting.{any-from, any-none}
 use Rattle.homology.proofs.Tops.{Below, Empty, member-below, largest-cong}
 use Rattle.bitset.specs.Bits.{bits, member, toggled, sumOf, TopIs, nothingIn}
 use Rattle.bitset.specs.declared.Top.the-variants.{Nothing, Cell}
@@ -63,13 +64,13 @@ set-top-empty ws set h s = sym (set .same s) ∙ nothing-is-empty ws h s
 
 -- ---- whether there is a member, as the hole count asks it of the numbers below n
 
-pub set-any-top : {x : Chain} (ws : List ℕ) (m n : ℕ) → SetIs ws x → TopIs ws (Cell m) → Below n x → any n x ≡ true
+pub set-any-top : {x : Chain} (ws : List ℕ) (m n : ℕ) → SetIs ws x → TopIs ws (Cell m) → Below n x → someHas x n ≡ true
 set-any-top {x} ws m n set h below =
     let top : IsLargest x m = set-top-largest ws m set h in
-    any-from n x m (member-below n x below m (top .member)) (top .member)
+    someHas-at x n m (member-below n x below m (top .member)) (top .member)
 
-pub set-any-none : {x : Chain} (ws : List ℕ) (n : ℕ) → SetIs ws x → TopIs ws Nothing → any n x ≡ false
-set-any-none {x} ws n set h = any-none n x (set-top-empty ws set h)
+pub set-any-none : {x : Chain} (ws : List ℕ) (n : ℕ) → SetIs ws x → TopIs ws Nothing → someHas x n ≡ false
+set-any-none {x} ws n set h = someHas-none x n (λ k l. set-top-empty ws set h k)
 
 pub set-nothing-in : {x : Chain} (ws : List ℕ) → SetIs ws x → nothingIn ws ≡ true → Empty x
 set-nothing-in ws set e s = sym (set .same s) ∙ false-member ws s (nothing-in-marks ws e s)
