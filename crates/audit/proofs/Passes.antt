@@ -8,6 +8,7 @@ use Prim.Native.Nat.{ℕ, _+_, _-_, _*_, _≤_, _<_}
 use native.Mathlib.Omega.{arith}
 use native.Mathlib.Numerals.{add-one}
 use lib.ListN.{getD}
+use Rattle.counting.proofs.Cases.{not-true-false}
 use Rattle.table.specs.Kind.{width, used}
 use Rattle.table.specs.Table.{cellsOf, dim, face, facesOf}
 use Rattle.table.specs.Audit.{scan, orElse, isSound, recordSound, faceSound, lawSound, lawPlaces, recordBreach, faceBreach, lawBreach, cellBreach, firstBreach}
@@ -16,7 +17,6 @@ use Rattle.table.specs.declared.Breach.the-variants.{Sound, Record, Face, Law}
 use Rattle.audit.proofs.Scans.{picks-sound, picks-breach, picked-sound, scan-each, scan-more, scan-stop}
 use Rattle.audit.proofs.Places.{used-is, used-fits, law-places-says}
 use Rattle.audit.proofs.Valid.{lawScan, face-inside, face-below, face-says, law-true, law-says}
-use Rattle.audit.proofs.Records.{not-true-false}
 use Rattle.table.proofs.Records.{faces-at}
 
 -- where the search of a cell stops, and where it goes on

@@ -7,14 +7,11 @@ use mathlib.Core.Logic.{_⊎_, ⊎-elim}
 use Prim.Native.Nat.{ℕ, zero, suc, _≤_, _<_}
 use native.Mathlib.Omega.{arith}
 use lib.ListN.{getD}
+use Rattle.counting.proofs.Cases.{not-true-false}
 use Rattle.table.specs.Kind.{top, faces, freeMark, used}
 use Rattle.table.specs.Table.{dim, face, facesOf}
 use Rattle.table.specs.Audit.{recordSound}
 use Rattle.audit.proofs.Valid.{record-kind, record-unused}
-
-pub not-true-false : (b : Bool) → (b ≡ true → ⊥) → b ≡ false
-not-true-false true h = absurd (h refl)
-not-true-false false h = refl
 
 pub no-kind : (t : List ℕ) (c : ℕ) → top < dim t c → (dim t c ≡ freeMark → ⊥) → recordSound t c ≡ false
 no-kind t c h g =

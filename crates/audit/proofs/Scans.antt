@@ -7,6 +7,7 @@ use Prim.Native.Nat.{ℕ, zero, suc, _+_, _<_}
 use native.Mathlib.Nat.{not-suc-le-zero, le-of-suc-le-suc, eq-or-lt-of-le}
 use native.Mathlib.Numerals.{add-one}
 use native.Mathlib.Omega.{arith}
+use Rattle.counting.proofs.Cases.{and-both, and-left, and-right}
 use Rattle.counting.specs.Counting.{pick}
 use Rattle.table.specs.Audit.{all, scan, orElse, isSound}
 use Rattle.table.specs.declared.Breach.{Breach}
@@ -15,18 +16,6 @@ use Rattle.table.specs.declared.Breach.the-variants.{Sound, Record, Face, Law}
 -- a statement about k below suc n: at n, or below n
 pub at-or-below : (P : ℕ → Type 0) (k n : ℕ) → k < suc n → P n → (k < n → P k) → P k
 at-or-below P k n h here below = ⊎-elim (λ e. subst P (sym e) here) below (eq-or-lt-of-le (le-of-suc-le-suc h))
-
--- both tests hold exactly where their conjunction does
-pub and-left : (a b : Bool) → (a && b) ≡ true → a ≡ true
-and-left true b e = refl
-and-left false b e = e
-
-pub and-right : (a b : Bool) → (a && b) ≡ true → b ≡ true
-and-right true b e = e
-and-right false b e = absurd (false≢true e)
-
-pub and-both : (a b : Bool) → a ≡ true → b ≡ true → (a && b) ≡ true
-and-both a b p q = rw (p, q)
 
 pub or-else : (a b : Bool) → (a || b) ≡ true → a ≡ false → b ≡ true
 or-else true b e f = absurd (false≢true (sym f))

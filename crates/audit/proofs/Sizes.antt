@@ -9,12 +9,12 @@ use native.Mathlib.Nat.{div-add-mod'}
 use borrow.Author.Tests.{eq-eqb, ne-eqb, le-leb, lt-ltb, eqb-true, eqb-false, leb-true, ltb-true, not-true}
 use lib.ListN.{length}
 use lib.Dec.{leb, ltb, eqb}
+use Rattle.counting.proofs.Cases.{and-both, and-left, and-right}
 use Rattle.counting.specs.Counting.{pick}
 use Rattle.table.specs.Kind.{capacity, top, width}
 use Rattle.table.specs.Table.{cellsOf, dim, Sized, sizedCells, Live, live}
 use Rattle.table.proofs.Records.{sized-cells-is}
 use Rattle.table.specs.Audit.{sized}
-use Rattle.audit.proofs.Scans.{and-left, and-right, and-both}
 
 pick-cases : (a b : Bool) (q : ℕ) → not (eqb (pick a (pick b q 0) 0) 0) ≡ true → (a ≡ true) × (b ≡ true) × (1 ≤ q)
 pick-cases true true q e = let z : (q ≡ 0 → ⊥) = eqb-false q 0 (not-true (eqb q 0) e) in (refl, refl, omega arith)

@@ -9,6 +9,7 @@ use Prim.Native.Nat.{ℕ, suc, _-_, _≤_, _<_}
 use native.Mathlib.Omega.{arith}
 use borrow.Author.Tests.{eq-eqb, le-leb, lt-ltb, le-ltb, eqb-true, leb-true, ltb-true, ltb-false}
 use lib.Dec.{leb, ltb, eqb}
+use Rattle.counting.proofs.Cases.{and-both, and-left, and-right}
 use Rattle.counting.specs.Counting.{pick}
 use Rattle.table.specs.Kind.{top, faces, freeMark, used}
 use Rattle.table.specs.Table.{cellsOf, dim, face, Live, Valid}
@@ -19,7 +20,7 @@ use Rattle.table.specs.declared.Breach.the-variants.{Sound, Record, Face, Law}
 use Rattle.table.specs.declared.Refusal.{Refusal}
 use Rattle.table.specs.declared.Refusal.the-variants.{Length, Invalid}
 use Rattle.table.specs.declared.Verdict.the-variants.{Accepted, Refused}
-use Rattle.audit.proofs.Scans.{and-left, and-right, and-both, or-else, all-true, all-says, or-else-left, or-else-right, or-else-both, sound-true, picked-sound, picks-sound, scan-none, scan-each}
+use Rattle.audit.proofs.Scans.{or-else, all-true, all-says, or-else-left, or-else-right, or-else-both, sound-true, picked-sound, picks-sound, scan-none, scan-each}
 use Rattle.audit.proofs.Sizes.{sized-is-sized, sized-says}
 use Rattle.audit.proofs.Places.{used-is, used-says, law-places-is, law-places-says}
 

@@ -15,13 +15,12 @@ use Rattle.table.specs.Kind.{faces, width, freeMark, used}
 use Rattle.table.specs.Table.{cellsOf, dim, face, live}
 use Rattle.table.specs.declared.Verdict.the-variants.{Accepted}
 use Rattle.table.proofs.Words.{length-tableOf, dim-tableOf, face-tableOf}
-use Rattle.audit.proofs.Scans.{and-right}
 use Rattle.table.proofs.Records.{live-true}
 use Rattle.audit.proofs.Places.{used-says}
 use Rattle.counting.specs.Counting.{howMany, pick}
 use Rattle.cone.specs.Cone.{free, apexOf, coneOf, baseOf, newCells, coneFace, given, coned, coneVerdict}
 use Rattle.building.specs.ConeRule.{Earlier, IsCone}
-use Rattle.counting.proofs.Cases.{true-or-false}
+use Rattle.counting.proofs.Cases.{true-or-false, and-right}
 use Rattle.cone.proofs.Acceptance.{Accepts, cone-accepted}
 use Rattle.cone.proofs.GivenNumbers.{free-inside, live-not-free, apex-is-free, apex-is-lowest, apex-given, cone-is-free, cone-given, apex-below-cone, cones-rise, base-of-cone, base-marked, cone-of-base, below-given, base-before}
 

@@ -13,12 +13,11 @@ use lib.Dec.{eqb}
 use Rattle.bitset.specs.Bits.{member}
 use Rattle.table.specs.Kind.{top, used}
 use Rattle.table.specs.Table.{cellsOf, live, Live}
-use Rattle.audit.proofs.Scans.{and-left, and-right, and-both}
 use Rattle.table.proofs.Records.{live-true}
 use Rattle.audit.proofs.Places.{used-is}
 use Rattle.counting.specs.Counting.{someHas}
 use Rattle.cone.specs.Cone.{free}
-use Rattle.counting.proofs.Cases.{below-or-not}
+use Rattle.counting.proofs.Cases.{below-or-not, and-both, and-left, and-right}
 use Rattle.counting.proofs.Counting.{someHas-each, someHas-one}
 use Rattle.cone.proofs.GivenNumbers.{not-live-free}
 

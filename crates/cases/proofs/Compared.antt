@@ -4,9 +4,11 @@ use mathlib.Core.Path.{_≡_, refl, ap, ap₂}
 use mathlib.Core.Bool.{Bool, true, false, _&&_}
 use mathlib.Core.List.{List, [], _∷_}
 use Prim.Native.Nat.{ℕ}
+use borrow.Author.Tests.{eqb-true}
 use lib.Dec.{eqb}
 use lib.IntN.{ℤ, pos, negsuc}
-use Rattle.homology.proofs.Marks.{clash, left-on, right-on, same-number}
+use Rattle.counting.proofs.Cases.{and-left, and-right}
+use Rattle.homology.proofs.Marks.{clash}
 use Rattle.reading.specs.declared.Sum.{Sum}
 use Rattle.reading.specs.declared.Sum.the-variants.{Is, NoSum}
 use Rattle.cases.specs.Cases.{Answer}
@@ -24,7 +26,7 @@ same-words [] [] e = refl
 same-words [] (y ∷ ys) e = clash e refl
 same-words (x ∷ xs) [] e = clash e refl
 same-words (x ∷ xs) (y ∷ ys) e =
-    ap₂ _∷_ (same-number x y (left-on (eqb x y) (sameWords xs ys) e)) (same-words xs ys (right-on (eqb x y) (sameWords xs ys) e))
+    ap₂ _∷_ (eqb-true x y (and-left (eqb x y) (sameWords xs ys) e)) (same-words xs ys (and-right (eqb x y) (sameWords xs ys) e))
 
 unfoldable pub sameInteger : ℤ → ℤ → Bool
 sameInteger (pos a) (pos b) = eqb a b
@@ -34,10 +36,10 @@ sameInteger (negsuc a) (negsuc b) = eqb a b
 
 same-integer : (x y : ℤ) → sameInteger x y ≡ true → x ≡ y
 unfolding sameInteger
-same-integer (pos a) (pos b) e = ap pos (same-number a b e)
+same-integer (pos a) (pos b) e = ap pos (eqb-true a b e)
 same-integer (pos a) (negsuc b) e = clash e refl
 same-integer (negsuc a) (pos b) e = clash e refl
-same-integer (negsuc a) (negsuc b) e = ap negsuc (same-number a b e)
+same-integer (negsuc a) (negsuc b) e = ap negsuc (eqb-true a b e)
 
 -- an answer that is this integer
 unfoldable pub isSum : Sum → ℤ → Bool
@@ -57,7 +59,7 @@ sameAnswer (refused a) (refused b) = eqb a b
 
 pub same-answer : (x y : Answer) → sameAnswer x y ≡ true → x ≡ y
 unfolding sameAnswer
-same-answer (names a) (names b) e = ap names (same-number a b e)
+same-answer (names a) (names b) e = ap names (eqb-true a b e)
 same-answer (names a) (refused b) e = clash e refl
 same-answer (refused a) (names b) e = clash e refl
-same-answer (refused a) (refused b) e = ap refused (same-number a b e)
+same-answer (refused a) (refused b) e = ap refused (eqb-true a b e)

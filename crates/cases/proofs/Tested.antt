@@ -6,11 +6,12 @@ use mathlib.Core.Bool.{Bool, true, _&&_}
 use mathlib.Core.List.{List, [], _∷_}
 use Prim.Native.Nat.{ℕ, _+_, _≤_}
 use native.Mathlib.Omega.{arith}
+use borrow.Author.Tests.{eqb-true}
 use lib.Dec.{eqb}
 use lib.ListN.{getD}
+use Rattle.counting.proofs.Cases.{and-left, and-right}
 use Rattle.homology.specs.Holes.{IsHoleNumber}
 use Rattle.homology.specs.Evidence.{holesIn}
-use Rattle.homology.proofs.Marks.{left-on, right-on, same-number}
 use Rattle.homology.proofs.HoleTheorem.{holes-are-hole-numbers}
 use Rattle.table.specs.Kind.{top}
 use Rattle.table.specs.Table.{cellsOf, Valid}
@@ -72,15 +73,15 @@ test e = validWords (e .before) && (goes (e .before) (e .asked) (e .after) && nu
 every-each : {A : Type 0} {P : A → Type 0} (f : A → Bool) → ((x : A) → f x ≡ true → P x) → (xs : List A) → every f xs ≡ true → Each P xs
 unfolding every
 every-each f h [] e = end
-every-each f h (x ∷ xs) e = h x (left-on (f x) (every f xs) e) then every-each f h xs (right-on (f x) (every f xs) e)
+every-each f h (x ∷ xs) e = h x (and-left (f x) (every f xs) e) then every-each f h xs (and-right (f x) (every f xs) e)
 
 valid-words : (t : List ℕ) → validWords t ≡ true → Valid t
 unfolding validWords
-valid-words t e = sound-is-valid t (left-on (sized t) (sound t) e) (right-on (sized t) (sound t) e)
+valid-words t e = sound-is-valid t (and-left (sized t) (sound t) e) (and-right (sized t) (sound t) e)
 
 goes-to : (t : List ℕ) (r : Request) (a : Answer) (u : List ℕ) → goes t (call r a) u ≡ true → leftBy t r ≡ u
 unfolding goes
-goes-to t r a u e = same-words (leftBy t r) u (right-on (sameAnswer (told (answerTo t r)) a) (sameWords (leftBy t r) u) e)
+goes-to t r a u e = same-words (leftBy t r) u (and-right (sameAnswer (told (answerTo t r)) a) (sameWords (leftBy t r) u) e)
 
 goes-leads : (t : List ℕ) (q : Asked) (u : List ℕ) → Valid t → goes t q u ≡ true → Leads t q u
 unfolding goes
@@ -88,7 +89,7 @@ goes-leads t nothing u v e = same-words t u e
 goes-leads t (call r a) u v e =
     let to : leftBy t r ≡ u = goes-to t r a u e in
     record {
-      answer = same-answer (told (answerTo t r)) a (left-on (sameAnswer (told (answerTo t r)) a) (sameWords (leftBy t r) u) e);
+      answer = same-answer (told (answerTo t r)) a (and-left (sameAnswer (told (answerTo t r)) a) (sameWords (leftBy t r) u) e);
       step = subst (Step t r) to (call-is-step t r);
       only = λ x s. step-is-call v s ∙ to;
     }
@@ -106,7 +107,7 @@ holes-are : (t hs : List ℕ) → Valid t → holesAre t (reducedEvidence t) hs 
 unfolding holesAre
 holes-are t hs v e p l =
     subst (IsHoleNumber (cells t) p)
-    (same-number (counted t p) (getD hs p 0) (all-true (λ k. eqb (counted t k) (getD hs k 0)) (top + 1) e p (omega arith)))
+    (eqb-true (counted t p) (getD hs p 0) (all-true (λ k. eqb (counted t k) (getD hs k 0)) (top + 1) e p (omega arith)))
     (holes-are-hole-numbers (cells t) (valid-is-lawful t v) (rows t (reducedEvidence t)) (reduced-meets t v) p)
 
 incidence-is : (t : List ℕ) (i : Incidence) → incidenceIs t i ≡ true → IncidenceIs t i
@@ -152,22 +153,22 @@ module _ (e : Case) where
   numbers-hold : validWords (e .before) ≡ true → goes (e .before) (e .asked) (e .after) ≡ true → numbersAre e ≡ true → Holds e
   unfolding numbersAre
   numbers-hold a b h =
-      let rest : passesIncidences && passesAdditions ≡ true = right-on passesHoles (passesIncidences && passesAdditions) h in
+      let rest : passesIncidences && passesAdditions ≡ true = and-right passesHoles (passesIncidences && passesAdditions) h in
       parts-hold a b
-      (left-on passesHoles (passesIncidences && passesAdditions) h)
-      (left-on passesIncidences passesAdditions rest)
-      (right-on passesIncidences passesAdditions rest)
+      (and-left passesHoles (passesIncidences && passesAdditions) h)
+      (and-left passesIncidences passesAdditions rest)
+      (and-right passesIncidences passesAdditions rest)
 
   -- an entry that passes the test holds
   pub passing-case-holds : test e ≡ true → Holds e
   unfolding test
   passing-case-holds h =
       let went : Bool = goes (e .before) (e .asked) (e .after) in
-      let rest : went && numbersAre e ≡ true = right-on (validWords (e .before)) (went && numbersAre e) h in
+      let rest : went && numbersAre e ≡ true = and-right (validWords (e .before)) (went && numbersAre e) h in
       numbers-hold
-      (left-on (validWords (e .before)) (went && numbersAre e) h)
-      (left-on went (numbersAre e) rest)
-      (right-on went (numbersAre e) rest)
+      (and-left (validWords (e .before)) (went && numbersAre e) h)
+      (and-left went (numbersAre e) rest)
+      (and-right went (numbersAre e) rest)
 
 -- and so does each entry of a list whose entries all pass
 abbrev pub Passes : Case → Type 0

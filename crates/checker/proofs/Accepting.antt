@@ -10,8 +10,9 @@ use native.Mathlib.Omega.{arith}
 use borrow.Author.Tests.{eq-eqb, eqb-true}
 use lib.Dec.{eqb}
 use lib.ListN.{length}
+use Rattle.counting.proofs.Cases.{and-both, and-left, and-right}
 use Rattle.homology.specs.Evidence.{RuleA, RuleB, Meets}
-use Rattle.homology.proofs.Marks.{by-mark, clash, both, left-on, right-on}
+use Rattle.homology.proofs.Marks.{by-mark, clash}
 use Rattle.bitset.specs.Bits.{wordsFor}
 use Rattle.counting.specs.Counting.{pick}
 use Rattle.table.specs.Kind.{capacity}
@@ -33,7 +34,7 @@ use Rattle.checker.proofs.Rules.{keepsA-is-rule-a, keepsB-is-rule-b}
 use Rattle.checker.proofs.Faults.{Passed, verdictFrom, all-pass, accepted-pass, fault-a, fault-b}
 
 pub lengths-fit : (t ev : List ℕ) → Valid t → length ev ≡ evidenceWords t → lengthsFit t ev ≡ true
-lengths-fit t ev v long = both (valid-is-sized t v) (eq-eqb (length ev) (evidenceWords t) long)
+lengths-fit t ev v long = and-both _ _ (valid-is-sized t v) (eq-eqb (length ev) (evidenceWords t) long)
 
 -- the two ways out of the test of the lengths, by the cells that the table's shape counts
 pub no-cells-fit : (t ev : List ℕ) (n : ℕ) → n ≡ sizedCells t → n ≡ 0 → false ≡ lengthsFit t ev
@@ -65,14 +66,14 @@ refused-invalid t ev e f = rw (e, f)
 -- where the lengths fit, what the audit refuses is refused
 pub audit-refuses : (t ev : List ℕ) (r : Refusal) → lengthsFit t ev ≡ true → Refused r ≡ verdict (auditGrounds t) → Refused r ≡ checkVerdict t ev
 audit-refuses t ev r f e =
-    let on : sized t ≡ true = left-on (sized t) (eqb (length ev) (evidenceWords t)) f in
+    let on : sized t ≡ true = and-left (sized t) (eqb (length ev) (evidenceWords t)) f in
     by-mark (sound t)
     (λ s. let accepted : verdict (auditGrounds t) ≡ Accepted = audit-accepts-iff-valid t .1 (sound-is-valid t on s) in
     let z : _≡_ {A = ℕ} 0 1 = cc in absurd (omega arith))
     (λ s. e ∙ rw (on, s) (sym (refused-invalid t ev f s)))
 
 pub fitting-length : (t ev : List ℕ) → lengthsFit t ev ≡ true → length ev ≡ evidenceWords t
-fitting-length t ev f = eqb-true (length ev) (evidenceWords t) (right-on (sized t) (eqb (length ev) (evidenceWords t)) f)
+fitting-length t ev f = eqb-true (length ev) (evidenceWords t) (and-right (sized t) (eqb (length ev) (evidenceWords t)) f)
 
 -- past these two grounds the rows decide
 pub rows-decide : (t ev : List ℕ) → Valid t → length ev ≡ evidenceWords t → checkVerdict t ev ≡ verdictFrom t ev 0 (cellsOf t)
@@ -87,7 +88,7 @@ pub record RowsDecide (t ev : List ℕ) (v : Verdict) : Type 0 where
 
 past-grounds : (t ev : List ℕ) (v : Verdict) (a b : Bool) → lengthsFit t ev ≡ a → sound t ≡ b → pick (not a) (Refused refusals.Length) (pick (not b) (Refused refusals.Invalid) (verdictFrom t ev 0 (cellsOf t))) ≡ v → (Refused refusals.Length ≡ v → ⊥) → (Refused refusals.Invalid ≡ v → ⊥) → RowsDecide t ev v
 past-grounds t ev v true true f s e x y =
-    let fit = left-on (sized t) (eqb (length ev) (evidenceWords t)) f in
+    let fit = and-left (sized t) (eqb (length ev) (evidenceWords t)) f in
     record {
       valid = sound-is-valid t fit s;
       long = fitting-length t ev f;
@@ -129,7 +130,7 @@ checker-accepts-iff-rules t ev v long = (
   λ m. rows-decide t ev v long ∙ sym (all-pass t ev (cellsOf t) (meets-passed t ev v long m)),
 )
 
--- The first row at fault: it lies in the table, every lower row keeps both rules, and it breaks A, or keeps A and breaks B.
+-- The first row at fault: it lies in the table, every lower row keeps and-both _ _ rules, and it breaks A, or keeps A and breaks B.
 pub record FirstBreaksA (t ev : List ℕ) (c : ℕ) : Type 0 where
   pub inside : c < cellsOf t
   pub lower-a : (b : ℕ) → b < c → RuleA (cells t) (rows t ev) b
@@ -177,6 +178,6 @@ first-breaks-b t ev c e =
       broken = λ r. clash (keepsB-is-rule-b t ev c (d .valid) (d .long) (f .0) .1 r) (f .3);
     }
 
--- both together
+-- and-both _ _ together
 pub first-fault-named : (t ev : List ℕ) (c : ℕ) → (checkVerdict t ev ≡ Refused (refusals.RuleA c) → FirstBreaksA t ev c) × (checkVerdict t ev ≡ Refused (refusals.RuleB c) → FirstBreaksB t ev c)
 first-fault-named t ev c = (first-breaks-a t ev c, first-breaks-b t ev c)

@@ -11,7 +11,8 @@ use borrow.Author.Tests.{eq-eqb, ne-eqb, le-leb, lt-leb, eqb-true, leb-true}
 use lib.Bits.{bitXor}
 use lib.Dec.{eqb, leb}
 use lib.ListN.{length, getD}
-use Rattle.homology.proofs.Marks.{by-mark, clash, off-unless, both, left-on, right-on, &&-off}
+use Rattle.counting.proofs.Cases.{and-both, and-left, and-right, not-true-false}
+use Rattle.homology.proofs.Marks.{by-mark, clash, &&-off}
 use Rattle.bitset.specs.Bits.{bits, digit, member, nothingIn}
 use Rattle.bitset.proofs.Digits.{digit-of-zero}
 use Rattle.bitset.proofs.Marks.{mark-at, member-false, false-member}
@@ -39,7 +40,7 @@ or-on false b h = refl
 -- two tests that pass together are equal
 pub same-test : (a b : Bool) → (a ≡ true → b ≡ true) → (b ≡ true → a ≡ true) → a ≡ b
 same-test true b f g = sym (f refl)
-same-test false b f g = sym (off-unless b (λ e. clash (g e) refl))
+same-test false b f g = sym (not-true-false b (λ e. clash (g e) refl))
 
 -- where a test of all fails one of them fails
 all-fails : (f : ℕ → Bool) (n : ℕ) → all n f ≡ false → (k : ℕ) × (k < n) × (f k ≡ false)
@@ -47,13 +48,13 @@ unfolding all
 all-fails f zero e = clash refl e
 all-fails f (suc n) e = by-mark (f n)
     (λ h. by-mark (all n f)
-    (λ g. clash (both g h) e)
+    (λ g. clash (and-both _ _ g h) e)
     (λ g. let r = all-fails f n g in (r .0, omega arith, r .2)))
     (λ h. (n, omega arith, h))
 
 -- a number whose word 0 is no dimension is free
 pub free-number : (t : List ℕ) (c p : ℕ) → p ≡ dim t c → top < p → live t c ≡ false
-free-number t c p e l = off-unless (live t c) (λ on. omega (arith, live-true t c on .low))
+free-number t c p e l = not-true-false (live t c) (λ on. omega (arith, live-true t c on .low))
 
 -- ---- what rule A asks of a member
 
@@ -69,25 +70,25 @@ pub record Fitting (t : List ℕ) (c s : ℕ) : Type 0 where
 fits-says : (t : List ℕ) (c s : ℕ) → fits t c s ≡ true → Fitting t c s
 fits-says t c s e =
     let a : Bool = live t s && eqb (dim t s) (dim t c) in
-    let r = right-on (live t c) (leb s c && a) e in
-    let q = right-on (leb s c) a r in
+    let r = and-right (live t c) (leb s c && a) e in
+    let q = and-right (leb s c) a r in
     record {
-      cell-live = left-on (live t c) (leb s c && a) e;
-      low = leb-true s c (left-on (leb s c) a r);
-      member-live = left-on (live t s) (eqb (dim t s) (dim t c)) q;
-      level = eqb-true (dim t s) (dim t c) (right-on (live t s) (eqb (dim t s) (dim t c)) q);
+      cell-live = and-left (live t c) (leb s c && a) e;
+      low = leb-true s c (and-left (leb s c) a r);
+      member-live = and-left (live t s) (eqb (dim t s) (dim t c)) q;
+      level = eqb-true (dim t s) (dim t c) (and-right (live t s) (eqb (dim t s) (dim t c)) q);
     }
 
 fitting-fits : (t : List ℕ) (c s : ℕ) → Fitting t c s → fits t c s ≡ true
 fitting-fits t c s f =
-    both (f .cell-live) (both (le-leb s c (f .low)) (both (f .member-live) (eq-eqb (dim t s) (dim t c) (f .level))))
+    and-both _ _ (f .cell-live) (and-both _ _ (le-leb s c (f .low)) (and-both _ _ (f .member-live) (eq-eqb (dim t s) (dim t c) (f .level))))
 
 -- of a live cell, two of the four tests are enough
 alike-fits : (t : List ℕ) (c s : ℕ) → Live t c → alike t c s ≡ true → Fitting t c s
 unfolding alike
 alike-fits t c s h e =
-    let low : s ≤ c = leb-true s c (left-on (leb s c) (eqb (dim t s) (dim t c)) e) in
-    let level : dim t s ≡ dim t c = eqb-true (dim t s) (dim t c) (right-on (leb s c) (eqb (dim t s) (dim t c)) e) in
+    let low : s ≤ c = leb-true s c (and-left (leb s c) (eqb (dim t s) (dim t c)) e) in
+    let level : dim t s ≡ dim t c = eqb-true (dim t s) (dim t c) (and-right (leb s c) (eqb (dim t s) (dim t c)) e) in
     record {
       cell-live = live-says t c h;
       low = low;
@@ -97,7 +98,7 @@ alike-fits t c s h e =
 
 fitting-alike : (t : List ℕ) (c s : ℕ) → Fitting t c s → alike t c s ≡ true
 unfolding alike
-fitting-alike t c s f = both (le-leb s c (f .low)) (eq-eqb (dim t s) (dim t c) (f .level))
+fitting-alike t c s f = and-both _ _ (le-leb s c (f .low)) (eq-eqb (dim t s) (dim t c) (f .level))
 
 pub not-alike-above : (t : List ℕ) (c s : ℕ) → c < s → alike t c s ≡ false
 unfolding alike
@@ -110,7 +111,7 @@ not-alike-level t c s p q e g h =
 
 pub alike-level : (t : List ℕ) (c s p q : ℕ) → s ≤ c → p ≡ dim t c → q ≡ dim t s → q ≡ p → alike t c s ≡ true
 unfolding alike
-alike-level t c s p q l e g h = both (le-leb s c l) (eq-eqb (dim t s) (dim t c) (sym g ∙ h ∙ e))
+alike-level t c s p q l e g h = and-both _ _ (le-leb s c l) (eq-eqb (dim t s) (dim t c) (sym g ∙ h ∙ e))
 
 -- ---- one word
 
@@ -127,7 +128,7 @@ module _ (t : List ℕ) (c w : ℕ) where
 
   pub word-fails : (v k : ℕ) → k < bits → digit v k ≡ 1 → alike t c (bits * w + k) ≡ false → wordKeeps t c w v ≡ false
   unfolding wordKeeps
-  word-fails v k h one bad = off-unless (all bits (bitKeeps v))
+  word-fails v k h one bad = not-true-false (all bits (bitKeeps v))
       (λ e. clash (or-off (eqb (digit v k) 1) (alike t c (bits * w + k)) (all-true (bitKeeps v) bits e k h) (eq-eqb (digit v k) 1 one)) bad)
 
   -- the word without a good bit
@@ -153,26 +154,26 @@ module _ (t : List ℕ) (c : ℕ) (row : List ℕ) where
   unfolding rowKeeps
   kept-members e s m =
       fits-says t c s (or-off (member row s) (fits t c s)
-      (all-true memberKeeps (bits * length row) (left-on (all (bits * length row) memberKeeps) (not (live t c) || member row c) e) s (member-inside row s m)) m)
+      (all-true memberKeeps (bits * length row) (and-left (all (bits * length row) memberKeeps) (not (live t c) || member row c) e) s (member-inside row s m)) m)
 
   pub kept-own : rowKeeps t c row ≡ true → live t c ≡ true → member row c ≡ true
   unfolding rowKeeps
-  kept-own e h = or-off (live t c) (member row c) (right-on (all (bits * length row) memberKeeps) (not (live t c) || member row c) e) h
+  kept-own e h = or-off (live t c) (member row c) (and-right (all (bits * length row) memberKeeps) (not (live t c) || member row c) e) h
 
   pub members-kept : ((s : ℕ) → member row s ≡ true → Fitting t c s) → (live t c ≡ true → member row c ≡ true) → rowKeeps t c row ≡ true
   unfolding rowKeeps
   members-kept each own =
-      both (all-says memberKeeps (bits * length row) (λ s h. or-on (member row s) (fits t c s) (λ m. fitting-fits t c s (each s m))))
+      and-both _ _ (all-says memberKeeps (bits * length row) (λ s h. or-on (member row s) (fits t c s) (λ m. fitting-fits t c s (each s m))))
       (or-on (live t c) (member row c) own)
 
   -- a free number's row keeps the rule where it is empty
   pub free-row : live t c ≡ false → ((k : ℕ) → getD row k 0 < 2 ^ 64) → nothingIn row ≡ rowKeeps t c row
   free-row h small = same-test (nothingIn row) (rowKeeps t c row)
       (λ e. members-kept (λ s m. clash m (false-member row s (nothing-in-marks row e s))) (λ g. clash g h))
-      (λ e. marks-nothing-in row small (λ s. member-false row s (off-unless (member row s) (λ m. clash (kept-members e s m .cell-live) h))))
+      (λ e. marks-nothing-in row small (λ s. member-false row s (not-true-false (member row s) (λ m. clash (kept-members e s m .cell-live) h))))
 
   pub no-own : Live t c → member row c ≡ false → false ≡ rowKeeps t c row
-  no-own h off = sym (off-unless (rowKeeps t c row) (λ e. clash (kept-own e (live-says t c h)) off))
+  no-own h off = sym (not-true-false (rowKeeps t c row) (λ e. clash (kept-own e (live-says t c h)) off))
 
   member-at : (w k : ℕ) → k < bits → member row (bits * w + k) ≡ eqb (digit (getD row w 0) k) 1
   unfolding member
@@ -183,7 +184,7 @@ module _ (t : List ℕ) (c : ℕ) (row : List ℕ) where
   unfolding wordKeeps
   row-fails w bad =
       let r = all-fails (bitKeeps t c w (getD row w 0)) bits bad in
-      sym (off-unless (rowKeeps t c row) (λ e. clash
+      sym (not-true-false (rowKeeps t c row) (λ e. clash
       (or-on (eqb (digit (getD row w 0) (r .0)) 1) (alike t c (bits * w + r .0))
       (λ one. fitting-alike t c (bits * w + r .0) (kept-members e (bits * w + r .0) (member-at w (r .0) (r .1) ∙ one))))
       (r .2)))

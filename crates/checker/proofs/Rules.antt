@@ -11,10 +11,11 @@ use native.Mathlib.Omega.{arith}
 use borrow.Author.Tests.{eq-eqb, ne-eqb}
 use lib.Dec.{eqb}
 use lib.ListN.{length, take, drop}
+use Rattle.counting.proofs.Cases.{not-true-false}
 use Rattle.homology.specs.Cells.{odd}
 use Rattle.homology.specs.Holes.{boundary}
 use Rattle.homology.specs.Evidence.{RuleA, RuleB, IsLargest}
-use Rattle.homology.proofs.Marks.{by-mark, clash, off-unless, &&-off}
+use Rattle.homology.proofs.Marks.{by-mark, clash, &&-off}
 use Rattle.homology.proofs.Parity.{odd-cong, odd-none}
 use Rattle.homology.proofs.Tops.{Below}
 use Rattle.counting.specs.Counting.{someHas}
@@ -75,9 +76,9 @@ module _ (t ev : List ℕ) (long : length ev ≡ evidenceWords t) (c : ℕ) (ins
       let row : List ℕ = rowOf t ev c in
       let k : rowKeeps t c row ≡ true = keepsA-of-words t ev long c inside ∙ e in
       record {
-        free = λ f s. off-unless (member row s) (λ m. clash (kept-members t c row k s m .cell-live) f);
+        free = λ f s. not-true-false (member row s) (λ m. clash (kept-members t c row k s m .cell-live) f);
         own = kept-own t c row k;
-        highest = λ h s l. off-unless (member row s) (λ m. omega (arith, kept-members t c row k s m .low));
+        highest = λ h s l. not-true-false (member row s) (λ m. omega (arith, kept-members t c row k s m .low));
         alike = λ h s m. let f = kept-members t c row k s m in (f .member-live, f .level);
       }
 

@@ -12,10 +12,11 @@ use borrow.Author.Tests.{eq-eqb, ne-eqb}
 use lib.Dec.{eqb}
 use lib.ListN.{length, getD, set, replicate, length-set}
 use lib.Seq.{ext-getD, getD-set-same, getD-set-other}
+use Rattle.counting.proofs.Cases.{and-both}
 use Rattle.counting.specs.Counting.{howMany, someHas}
 use Rattle.counting.proofs.Counting.{howMany-most, howMany-no, howMany-yes}
 use Rattle.homology.specs.Evidence.{cellsIn, boundingIn}
-use Rattle.homology.proofs.Marks.{by-mark, both, &&-off}
+use Rattle.homology.proofs.Marks.{by-mark, &&-off}
 use Rattle.homology.proofs.Chains.{boundary-member}
 use Rattle.table.specs.Kind.{top}
 use Rattle.table.specs.Table.{cellsOf, dim, live, Live, Valid}
@@ -83,7 +84,7 @@ isCellAt t p c = live t c && eqb (dim t c) p
 
 module _ (t : List ℕ) (c : ℕ) where
   pub own-dimension : Live t c → isCellAt t (dim t c) c ≡ true
-  own-dimension h = both (live-says t c h) (eq-eqb (dim t c) (dim t c) refl)
+  own-dimension h = and-both _ _ (live-says t c h) (eq-eqb (dim t c) (dim t c) refl)
 
   other-dimension : (p : ℕ) → (p ≡ dim t c → ⊥) → isCellAt t p c ≡ false
   other-dimension p ne = ap (λ (b : Bool). live t c && b) (ne-eqb (dim t c) p (λ e. ne (sym e))) ∙ &&-off (live t c)
@@ -115,7 +116,7 @@ module _ (t ev : List ℕ) (v : Valid t) (long : length ev ≡ evidenceWords t) 
 
   pub row-counted : (n m p : ℕ) (xs : List ℕ) → keepsA t ev c ≡ true → rowTop t ev c ≡ suc m → p ≡ dim t c → p < n → Tally n (isBoundingAt t ev) c xs → Tally n (isBoundingAt t ev) (c + 1) (set xs p (getD xs p 0 + 1))
   row-counted n m p xs a e g l k = tally-one n (isBoundingAt t ev) c p xs l k
-      (both (subst (λ (q : ℕ). isCellAt t q c ≡ true) (sym g) (own-dimension t c (bounding-live m a e))) (any-on-top (rowBoundary t ev c) (cellsOf t) m e))
+      (and-both _ _ (subst (λ (q : ℕ). isCellAt t q c ≡ true) (sym g) (own-dimension t c (bounding-live m a e))) (any-on-top (rowBoundary t ev c) (cellsOf t) m e))
       (λ q ne. ap (λ (b : Bool). b && someHas (rowBoundary t ev c) (cellsOf t)) (other-dimension t c q (λ z. ne (z ∙ sym g))))
 
 pub row-skipped : (t ev : List ℕ) (c n : ℕ) (xs : List ℕ) → rowTop t ev c ≡ 0 → Tally n (isBoundingAt t ev) c xs → Tally n (isBoundingAt t ev) (c + 1) xs

@@ -6,9 +6,11 @@ use mathlib.Core.Bool.{Bool, true, false, _&&_}
 use mathlib.Core.List.{List}
 use Prim.Native.Nat.{ℕ, zero, suc, _<_}
 use native.Mathlib.Omega.{arith}
+use borrow.Author.Tests.{eqb-true}
 use lib.Dec.{eqb}
+use Rattle.counting.proofs.Cases.{and-left, and-right}
 use Rattle.homology.specs.Cells.{FaceOf, Lawful, odd}
-use Rattle.homology.proofs.Marks.{by-mark, left-on, right-on, same-number}
+use Rattle.homology.proofs.Marks.{by-mark}
 use Rattle.homology.proofs.Parity.{odd-cong, odd-none, odd-times, odd-swap, odd-member}
 use Rattle.table.specs.Kind.{used}
 use Rattle.table.specs.Table.{Live, Valid, cellsOf, dim, face, live}
@@ -42,9 +44,9 @@ module _ (t : List ℕ) (v : Valid t) where
   unfolding oddFace
   marked-face c u e =
       let places-of : Bool = odd (used (dim t c)) (λ j. eqb (face t c j) u) in
-      let a : Live t c = live-true t c (left-on (live t c) places-of e) in
-      let r = odd-member (used (dim t c)) (λ j. eqb (face t c j) u) (right-on (live t c) places-of e) in
-      face-at c u (r .0) a (r .1) (same-number (face t c (r .0)) u (r .2))
+      let a : Live t c = live-true t c (and-left (live t c) places-of e) in
+      let r = odd-member (used (dim t c)) (λ j. eqb (face t c j) u) (and-right (live t c) places-of e) in
+      face-at c u (r .0) a (r .1) (eqb-true (face t c (r .0)) u (r .2))
 
   -- the sum over the cells between is a sum over the places of c
   by-places : (c u : ℕ) → Live t c → odd (cellsOf t) (λ s. oddFace t c s && oddFace t s u) ≡ odd (used (dim t c)) (λ j. oddFace t (face t c j) u)

@@ -8,7 +8,7 @@ use native.Mathlib.Nat.{suc-inj}
 use native.Mathlib.Omega.{arith}
 use borrow.Author.Tests.{ne-eqb, le-leb, lt-ltb, leb-true, ltb-true}
 use lib.Dec.{leb, ltb}
-use Rattle.homology.proofs.Marks.{both, left-on, right-on}
+use Rattle.counting.proofs.Cases.{and-both, and-left, and-right}
 use Rattle.table.specs.Kind.{top, used}
 use Rattle.table.specs.Table.{Live, Valid, cellsOf, dim, face, live}
 

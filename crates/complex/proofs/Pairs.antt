@@ -5,9 +5,10 @@ use mathlib.Core.Bool.{Bool, false, _&&_}
 use Prim.Native.Nat.{ℕ, zero, suc, _-_, _≤_, _<_}
 use native.Mathlib.Nat.{not-suc-le-zero}
 use native.Mathlib.Omega.{arith}
+use borrow.Author.Tests.{eq-eqb, ne-eqb}
 use lib.Dec.{eqb}
 use Rattle.homology.specs.Cells.{odd, _⊻_}
-use Rattle.homology.proofs.Marks.{by-order, test-same, test-other, off-⊻, ⊻-off, ⊻-self}
+use Rattle.homology.proofs.Marks.{by-order, off-⊻, ⊻-off, ⊻-self}
 use Rattle.homology.proofs.Parity.{odd-⊻}
 
 -- two families that agree below n have one parity there
@@ -20,15 +21,15 @@ odd-below (suc n) f g h = ap₂ (λ a b. a ⊻ b) (odd-below n f g (λ c l. h c 
 past : (n k : ℕ) (f : ℕ → Bool) → n ≤ k → odd n (λ c. eqb k c && f c) ≡ false
 unfolding odd
 past zero k f h = refl
-past (suc n) k f h = rw (past n k f (omega arith), test-other k n (λ e. omega arith))
+past (suc n) k f h = rw (past n k f (omega arith), ne-eqb k n (λ e. omega arith))
 
 -- of a range's numbers, one alone is k
 pub odd-at : (n k : ℕ) (f : ℕ → Bool) → k < n → odd n (λ c. eqb k c && f c) ≡ f k
 unfolding odd
 odd-at zero k f h = absurd (not-suc-le-zero h)
 odd-at (suc n) k f h = by-order k n
-    (λ l. rw (odd-at n k f l, test-other k n (λ e. omega arith)) (⊻-off (f k)))
-    (λ e. rw (past n k f (omega arith), test-same k n e) (off-⊻ (f n) ∙ ap f (sym e)))
+    (λ l. rw (odd-at n k f l, ne-eqb k n (λ e. omega arith)) (⊻-off (f k)))
+    (λ e. rw (past n k f (omega arith), eq-eqb k n e) (off-⊻ (f n) ∙ ap f (sym e)))
     (λ l. absurd (omega arith))
 
 -- Pairs of places (j, l), j up to n and l below n, cancel in two: (j, l) with l < j against (l, j − 1).

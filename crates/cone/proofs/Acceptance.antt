@@ -16,12 +16,11 @@ use Rattle.table.specs.Kind.{top, used}
 use Rattle.table.specs.Table.{cellsOf, dim, face, Live, live, Valid}
 use Rattle.table.specs.Audit.{sized, sound}
 use Rattle.table.specs.declared.Verdict.the-variants.{Accepted}
-use Rattle.audit.proofs.Scans.{and-left, and-right, and-both}
 use Rattle.table.proofs.Records.{live-says, live-true}
 use Rattle.audit.proofs.Valid.{sound-is-valid, valid-is-sound, valid-is-sized}
 use Rattle.counting.specs.Counting.{howMany, someHas}
 use Rattle.cone.specs.Cone.{free, newCells, markedNotLive, notClosed, topMarked, noRoom, coneGrounds, coneVerdict}
-use Rattle.counting.proofs.Cases.{below-or-not}
+use Rattle.counting.proofs.Cases.{below-or-not, and-both, and-left, and-right}
 use Rattle.counting.proofs.Counting.{someHas-each, someHas-none}
 use Rattle.audit.proofs.Grounds.{accepted-none-applies, none-applies-accepted}
 

@@ -12,10 +12,9 @@ use borrow.Author.Tests.{lt-ltb, ltb-true, not-true}
 use lib.Dec.{ltb}
 use Rattle.bitset.specs.Bits.{member}
 use Rattle.table.specs.Table.{cellsOf, live}
-use Rattle.audit.proofs.Scans.{and-left, and-right, and-both}
 use Rattle.counting.specs.Counting.{howMany, nth}
 use Rattle.cone.specs.Cone.{free, apexOf, coneOf, baseOf, newCells, given}
-use Rattle.counting.proofs.Cases.{true-or-false}
+use Rattle.counting.proofs.Cases.{true-or-false, and-both, and-left, and-right}
 use Rattle.counting.proofs.Counting.{howMany-strict, nth-has, nth-rank, rank-nth, nth-rising, same-rank, rank-inside}
 use Rattle.cone.proofs.Acceptance.{Accepts}
 

@@ -9,6 +9,7 @@ use native.Mathlib.Omega.{arith}
 use borrow.Author.Tests.{eq-eqb, ne-eqb, not-true, not-false}
 use lib.ListN.{length}
 use lib.Dec.{eqb}
+use Rattle.counting.proofs.Cases.{and-left}
 use Rattle.bitset.specs.Bits.{wordsFor}
 use Rattle.counting.specs.Counting.{pick}
 use Rattle.table.specs.Kind.{capacity}
@@ -21,7 +22,6 @@ use Rattle.table.specs.declared.Verdict.{Verdict}
 use Rattle.table.specs.declared.Verdict.the-variants.{Accepted, Refused}
 use Rattle.table.specs.declared.Named.the-variants.{Cell, NoCell}
 use Rattle.audit.proofs.Sizes.{sized-is-sized}
-use Rattle.audit.proofs.Scans.{and-left}
 use Rattle.audit.proofs.Valid.{audit-accepts-iff-valid}
 use Rattle.cone.specs.Cone.{apexOf, coned, noRoom, coneVerdict, coneAnswer, coneLeaves}
 use Rattle.cone.specs.Parts.{Given, Ready, markGrounds, earlyGrounds}

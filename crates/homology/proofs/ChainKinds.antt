@@ -7,11 +7,13 @@ use mathlib.Core.Bool.{Bool, true, false, _&&_}
 use mathlib.Core.Logic.{_⊎_, inl, inr}
 use Prim.Native.Nat.{ℕ, zero, suc, _≤_, _<_}
 use native.Mathlib.Omega.{arith}
+use borrow.Author.Tests.{eq-eqb, eqb-true}
 use lib.Dec.{eqb}
+use Rattle.counting.proofs.Cases.{and-both, and-left, and-right, not-true-false}
 use Rattle.homology.specs.Cells.{Cells, Lawful, _⊻_}
 use Rattle.homology.specs.Holes.{Chain, sum, IsChain, boundary, IsCycle}
 use Rattle.homology.specs.Evidence.{Rows, IsLargest, RuleB, Meets}
-use Rattle.homology.proofs.Marks.{by-mark, by-order, clash, off-unless, both, left-on, right-on, same-number, test-same, ⊻-back, ⊻-off, off-⊻}
+use Rattle.homology.proofs.Marks.{by-mark, by-order, clash, ⊻-back, ⊻-off, off-⊻}
 use Rattle.homology.proofs.Chains.{boundary-sum, boundary-none, boundary-below, sum-chain}
 use Rattle.homology.proofs.Tops.{Below, Empty, below-less, largest, largest-unique, largest-cong, largest-over, over-largest, below-largest}
 
@@ -20,16 +22,16 @@ abbrev pub isCell : Cells → ℕ → ℕ → Bool
 isCell K p c = K .live c && eqb (K .dim c) p
 
 pub cell-live : (K : Cells) (p c : ℕ) → isCell K p c ≡ true → K .live c ≡ true
-cell-live K p c e = left-on (K .live c) (eqb (K .dim c) p) e
+cell-live K p c e = and-left (K .live c) (eqb (K .dim c) p) e
 
 pub cell-level : (K : Cells) (p c : ℕ) → isCell K p c ≡ true → K .dim c ≡ p
-cell-level K p c e = same-number (K .dim c) p (right-on (K .live c) (eqb (K .dim c) p) e)
+cell-level K p c e = eqb-true (K .dim c) p (and-right (K .live c) (eqb (K .dim c) p) e)
 
 pub chain-cell : {K : Cells} {p : ℕ} {x : Chain} → IsChain K p x → (c : ℕ) → x c ≡ true → isCell K p c ≡ true
-chain-cell {K} {p} h c e = both (h .living c e) (test-same (K .dim c) p (h .level c e))
+chain-cell {K} {p} h c e = and-both _ _ (h .living c e) (eq-eqb (K .dim c) p (h .level c e))
 
 pub chain-below : {K : Cells} {p : ℕ} {x : Chain} → IsChain K p x → Below (K .size) x
-chain-below {x = x} h s l = off-unless (x s) (λ e. omega (arith, h .below s e))
+chain-below {x = x} h s l = not-true-false (x s) (λ e. omega (arith, h .below s e))
 
 pub empty-boundary : (K : Cells) (x : Chain) → Empty x → Empty (boundary K x)
 empty-boundary K x h t = subst (λ (y : Chain). boundary K y t ≡ false) (sym (fun-ext h)) (boundary-none K t)

@@ -5,9 +5,10 @@ use mathlib.Core.Path.{_≡_, refl, ap, ap₂, _∙_}
 use mathlib.Core.Bool.{Bool, true, false, _&&_}
 use Prim.Native.Nat.{ℕ, suc, _≤_}
 use native.Mathlib.Omega.{arith}
+use Rattle.counting.proofs.Cases.{and-left, and-right, not-true-false}
 use Rattle.homology.specs.Cells.{Cells, FaceOf, Lawful, odd, _⊻_}
 use Rattle.homology.specs.Holes.{Chain, none, sum, IsChain, boundary, IsCycle, IsBoundary}
-use Rattle.homology.proofs.Marks.{clash, off-unless, left-on, right-on, on-in-sum, &&-off, &&-assoc, ⊻-&&}
+use Rattle.homology.proofs.Marks.{clash, on-in-sum, &&-off, &&-assoc, ⊻-&&}
 use Rattle.homology.proofs.Parity.{odd-cong, odd-none, odd-⊻, odd-times, times-odd, odd-swap, odd-member}
 
 pub boundary-sum : (K : Cells) (x y : Chain) (t : ℕ) → boundary K (sum x y) t ≡ boundary K x t ⊻ boundary K y t
@@ -42,7 +43,7 @@ pub boundary-member : (K : Cells) → Lawful K → (x : Chain) (t : ℕ) → bou
 unfolding boundary
 boundary-member K law x t e =
     let r = odd-member (K .size) (λ c. x c && K .inc c t) e in
-    (r .0, left-on (x (r .0)) (K .inc (r .0) t) (r .2), law .faces (r .0) t (right-on (x (r .0)) (K .inc (r .0) t) (r .2)))
+    (r .0, and-left (x (r .0)) (K .inc (r .0) t) (r .2), law .faces (r .0) t (and-right (x (r .0)) (K .inc (r .0) t) (r .2)))
 
 module _ (K : Cells) (law : Lawful K) where
   pub boundary-chain : {p : ℕ} {x : Chain} → IsChain K (suc p) x → IsChain K p (boundary K x)
@@ -57,11 +58,11 @@ module _ (K : Cells) (law : Lawful K) where
 
   -- points have no boundary
   pub point-boundary : (x : Chain) → IsChain K 0 x → (t : ℕ) → boundary K x t ≡ false
-  point-boundary x h t = off-unless (boundary K x t) (λ e. let r = boundary-member K law x t e in
+  point-boundary x h t = not-true-false (boundary K x t) (λ e. let r = boundary-member K law x t e in
       omega (arith, r .2 .one-down, h .level (r .0) (r .1)))
 
   pub boundary-below : (x : Chain) (t : ℕ) → K .size ≤ t → boundary K x t ≡ false
-  boundary-below x t h = off-unless (boundary K x t) (λ e. omega (arith, (boundary-member K law x t e) .2 .face-below))
+  boundary-below x t h = not-true-false (boundary K x t) (λ e. omega (arith, (boundary-member K law x t e) .2 .face-below))
 
 module _ {K : Cells} {p : ℕ} where
   pub none-chain : IsChain K p none

@@ -5,10 +5,12 @@ use mathlib.Core.Path.{_≡_, refl, sym, ap, _∙_, subst}
 use mathlib.Core.Bool.{Bool, true, false, not, _&&_, _||_}
 use Prim.Native.Nat.{ℕ, zero, suc, _+_, _≤_, _<_}
 use native.Mathlib.Omega.{arith}
+use borrow.Author.Tests.{eq-eqb, ne-eqb}
 use lib.Dec.{eqb}
+use Rattle.counting.proofs.Cases.{not-true-false}
 use Rattle.counting.specs.Counting.{pick, howMany}
 use Rattle.counting.proofs.Counting.{howMany-alike}
-use Rattle.homology.proofs.Marks.{by-mark, by-order, clash, off-unless, test-same, test-other, &&-off}
+use Rattle.homology.proofs.Marks.{by-mark, by-order, clash, &&-off}
 
 -- what one number adds to a count
 abbrev markOf : Bool → ℕ
@@ -31,7 +33,7 @@ without f t s = f s && not (eqb s t)
 
 without-other : (f : ℕ → Bool) (t s : ℕ) → (s ≡ t → ⊥) → f s ≡ without f t s
 unfolding without
-without-other f t s h = rw (test-other s t h) (by-mark (f s) (λ e. rw e) (λ e. rw e))
+without-other f t s h = rw (ne-eqb s t h) (by-mark (f s) (λ e. rw e) (λ e. rw e))
 
 count-without : (n : ℕ) (f : ℕ → Bool) (t : ℕ) → t < n → f t ≡ true → howMany f n ≡ suc (howMany (without f t) n)
 unfolding howMany without
@@ -45,7 +47,7 @@ count-without (suc n) f t h e = by-order t n
     last q = omega (
       arith,
       ap markOf (subst (λ s. f s ≡ true) q e),
-      ap markOf (ap (λ b. f n && not b) (test-same n t (sym q)) ∙ &&-off (f n)),
+      ap markOf (ap (λ b. f n && not b) (eq-eqb n t (sym q)) ∙ &&-off (f n)),
       howMany-alike f (without f t) n (λ c l. without-other f t c (λ r. omega arith)),
     )
 

@@ -8,12 +8,13 @@ use mathlib.Core.List.{List, [], _∷_, map}
 use Prim.Native.Nat.{ℕ, zero, suc, _≤_}
 use native.Mathlib.Omega.{arith}
 use lib.ListN.{length, replicate, length-replicate, length-map}
+use Rattle.counting.proofs.Cases.{and-both, not-true-false}
 use Rattle.counting.specs.Counting.{howMany}
 use Rattle.counting.proofs.Counting.{howMany-no, howMany-yes}
 use Rattle.homology.specs.Cells.{Cells, Lawful, _⊻_}
 use Rattle.homology.specs.Holes.{Chain, none, picked, chosen, boundary, IsCycle, IsBoundary, Independent}
 use Rattle.homology.specs.Evidence.{Rows, Meets}
-use Rattle.homology.proofs.Marks.{by-mark, clash, off-unless, both, on-of-off, &&-off, ⊻-back}
+use Rattle.homology.proofs.Marks.{by-mark, clash, on-of-off, &&-off, ⊻-back}
 use Rattle.homology.proofs.Chains.{boundary-none, boundary-closed, none-chain, sum-cycle, sum-boundary, taken-boundary}
 use Rattle.homology.proofs.Tops.{Below, Empty, below-less}
 use Rattle.homology.proofs.ChainKinds.{chain-cell, chain-below, row-chain, cycle-top}
@@ -74,8 +75,8 @@ module _ (K : Cells) (law : Lawful K) (rows : Rows) (meets : Meets K rows) (p : 
   never-top : (m : ℕ) → isHole K rows p m ≡ false → isFilled K rows p m ≡ false → (x : Chain) → Short K p (suc m) x → Short K p m x
   never-top m e f x h = (
     h .0,
-    below-less m x (h .1) (off-unless (x m) (λ g. clash
-        (both (closed-cell K rows p m (chain-cell (h .0 .chain) m g)
+    below-less m x (h .1) (not-true-false (x m) (λ g. clash
+        (and-both _ _ (closed-cell K rows p m (chain-cell (h .0 .chain) m g)
         (cycle-top K law rows meets p x m (h .0) (record { member = g; above = h .1 }))) (on-of-off f)) e)),
   )
 

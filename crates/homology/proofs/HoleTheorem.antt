@@ -5,12 +5,13 @@ use mathlib.Core.Path.{_≡_, subst}
 use mathlib.Core.Bool.{true, _&&_}
 use Prim.Native.Nat.{ℕ, suc, _+_, _≤_, _<_}
 use native.Mathlib.Omega.{arith}
+use Rattle.counting.proofs.Cases.{and-left, and-right, not-true-false}
 use Rattle.counting.specs.Counting.{howMany}
 use Rattle.counting.proofs.Counting.{howMany-none, someHas-none}
 use Rattle.homology.specs.Cells.{Cells, Lawful}
 use Rattle.homology.specs.Holes.{IsHoleNumber, boundary}
 use Rattle.homology.specs.Evidence.{Rows, Meets, cellsIn, boundingIn, holesIn}
-use Rattle.homology.proofs.Marks.{off-unless, clash, left-on, right-on}
+use Rattle.homology.proofs.Marks.{clash}
 use Rattle.homology.proofs.Chains.{point-boundary}
 use Rattle.homology.proofs.ChainKinds.{isCell, cell-live, cell-level, row-chain}
 use Rattle.homology.proofs.HoleCells.{isBounding, isHole, cells-add-up}
@@ -34,15 +35,15 @@ holes-are-hole-numbers K law rows meets p = subst (IsHoleNumber K p) (holes-coun
 pub no-bounding-points : (K : Cells) → Lawful K → (rows : Rows) → Meets K rows → boundingIn K rows 0 ≡ 0
 unfolding boundingIn
 no-bounding-points K law rows meets = howMany-none (λ c. isCell K 0 c && isBounding K rows c) (K .size)
-    (λ c l. off-unless (isCell K 0 c && isBounding K rows c) (λ e. clash
-    (right-on (isCell K 0 c) (isBounding K rows c) e)
-    (someHas-none (boundary K (rows c)) (K .size) (λ t h. point-boundary K law (rows c) (row-chain K rows meets 0 c l (left-on (isCell K 0 c) (isBounding K rows c) e)) t))))
+    (λ c l. not-true-false (isCell K 0 c && isBounding K rows c) (λ e. clash
+    (and-right (isCell K 0 c) (isBounding K rows c) e)
+    (someHas-none (boundary K (rows c)) (K .size) (λ t h. point-boundary K law (rows c) (row-chain K rows meets 0 c l (and-left (isCell K 0 c) (isBounding K rows c) e)) t))))
 
 -- where there are no p-cells none of their rows bounds: r_p = 0 above the highest dimension
 pub no-bounding-above : (K : Cells) → Lawful K → (rows : Rows) → (p : ℕ)
     → ((c : ℕ) → c < K .size → K .live c ≡ true → K .dim c ≡ p → ⊥) → boundingIn K rows p ≡ 0
 unfolding boundingIn
 no-bounding-above K law rows p h = howMany-none (λ c. isCell K p c && isBounding K rows c) (K .size)
-    (λ c l. off-unless (isCell K p c && isBounding K rows c) (λ e.
-    let cell = left-on (isCell K p c) (isBounding K rows c) e in
+    (λ c l. not-true-false (isCell K p c && isBounding K rows c) (λ e.
+    let cell = and-left (isCell K p c) (isBounding K rows c) e in
     h c l (cell-live K p c cell) (cell-level K p c cell)))

@@ -22,41 +22,12 @@ by-order (suc c) (suc s) f g h = by-order c s (λ l. f (omega arith)) (λ e. g (
 pub clash : {A : Type 0} {b : Bool} → b ≡ true → b ≡ false → A
 clash e f = absurd (true≢false (sym e ∙ f))
 
-pub off-unless : (b : Bool) → (b ≡ true → ⊥) → b ≡ false
-off-unless true h = absurd (h refl)
-off-unless false h = refl
-
-pub both : {a b : Bool} → a ≡ true → b ≡ true → a && b ≡ true
-both e f = rw (e, f)
-
-pub left-on : (a b : Bool) → a && b ≡ true → a ≡ true
-left-on true b e = refl
-left-on false b e = e
-
-pub right-on : (a b : Bool) → a && b ≡ true → b ≡ true
-right-on true b e = e
-right-on false b e = clash e refl
-
 pub not-on : (b : Bool) → not b ≡ true → b ≡ false
 not-on true e = sym e
 not-on false e = refl
 
 pub on-of-off : {b : Bool} → b ≡ false → not b ≡ true
 on-of-off e = rw e
-
--- equal numbers and the test for them
-pub same-number : (c s : ℕ) → eqb c s ≡ true → c ≡ s
-same-number c s e = eqb→eq c s (subst T (sym e) tt)
-
-on-of-test : (b : Bool) → T b → b ≡ true
-on-of-test true h = refl
-on-of-test false h = absurd h
-
-pub test-same : (c s : ℕ) → c ≡ s → eqb c s ≡ true
-test-same c s e = subst (λ (t : ℕ). eqb c t ≡ true) e (on-of-test (eqb c c) (eqb-refl c))
-
-pub test-other : (c s : ℕ) → (c ≡ s → ⊥) → eqb c s ≡ false
-test-other c s h = off-unless (eqb c s) (λ e. h (same-number c s e))
 
 -- sums mod 2
 pub ⊻-self : (a : Bool) → a ⊻ a ≡ false

@@ -5,11 +5,12 @@ use mathlib.Core.Bool.{Bool, true, false, cond}
 use mathlib.Core.Logic.{_⊎_, inl, inr}
 use Prim.Native.Nat.{ℕ, zero, suc, _≤_, _<_}
 use native.Mathlib.Omega.{arith}
+use borrow.Author.Tests.{eq-eqb, eqb-true}
 use lib.Dec.{eqb}
 use Rattle.homology.specs.Cells.{_⊻_}
 use Rattle.homology.specs.Holes.{Chain, sum}
 use Rattle.homology.specs.Evidence.{IsLargest}
-use Rattle.homology.proofs.Marks.{by-mark, by-order, clash, same-number, test-same, ⊻-comm}
+use Rattle.homology.proofs.Marks.{by-mark, by-order, clash, ⊻-comm}
 
 -- x has no member from m on
 abbrev pub Below : ℕ → Chain → Type 0
@@ -58,7 +59,7 @@ pub top-largest : (n : ℕ) (x : Chain) (t : ℕ) → Below n x → isTop n x t 
 unfolding isTop
 top-largest zero x t h e = clash e refl
 top-largest (suc n) x t h e = by-mark (x n)
-    (λ g. subst (IsLargest x) (same-number n t (rw g at e)) (record { member = g; above = h }))
+    (λ g. subst (IsLargest x) (eqb-true n t (rw g at e)) (record { member = g; above = h }))
     (λ g. top-largest n x t (below-less n x h g) (rw g at e))
 
 pub largest-top : (n : ℕ) (x : Chain) (t : ℕ) → t < n → IsLargest x t → isTop n x t ≡ true
@@ -66,5 +67,5 @@ unfolding isTop
 largest-top zero x t l h = absurd (omega arith)
 largest-top (suc n) x t l h = by-order t n
     (λ g. rw (h .above n g) (largest-top n x t g h))
-    (λ q. rw (ap x (sym q), h .member) (test-same n t (sym q)))
+    (λ q. rw (ap x (sym q), h .member) (eq-eqb n t (sym q)))
     (λ g. absurd (omega arith))

@@ -7,12 +7,13 @@ use mathlib.Core.List.{List, [], _∷_}
 use Prim.Native.Nat.{ℕ, zero, suc, _≤_, _<_}
 use native.Mathlib.Omega.{arith}
 use lib.ListN.{length}
+use Rattle.counting.proofs.Cases.{and-left, and-right, not-true-false}
 use Rattle.counting.specs.Counting.{howMany}
 use Rattle.counting.proofs.Counting.{howMany-no, howMany-yes, someHas-at}
 use Rattle.homology.specs.Cells.{Cells, Lawful, _⊻_}
 use Rattle.homology.specs.Holes.{Chain, picked, chosen, boundary, IsCycle, IsBoundary, Independent}
 use Rattle.homology.specs.Evidence.{Rows, IsLargest, Meets}
-use Rattle.homology.proofs.Marks.{by-mark, clash, off-unless, left-on, right-on, not-on, &&-off, off-⊻}
+use Rattle.homology.proofs.Marks.{by-mark, clash, not-on, &&-off, off-⊻}
 use Rattle.homology.proofs.Chains.{boundary-member}
 use Rattle.homology.proofs.Tops.{Below, member-below, largest-cong, over-largest}
 use Rattle.homology.proofs.ChainKinds.{isCell, row-largest, row-chain, boundary-top}
@@ -33,22 +34,22 @@ ends-more m x xs h g (b ∷ s) c l = ap₂ _⊻_ (ap (λ a. b && a) (h c l) ∙ 
 
 module _ (K : Cells) (law : Lawful K) (rows : Rows) (meets : Meets K rows) (p : ℕ) where
   hole-cell : (c : ℕ) → isHole K rows p c ≡ true → isCell K p c ≡ true
-  hole-cell c e = left-on (isCell K p c) (not (isBounding K rows c)) (left-on (isClosed K rows p c) (not (isFilled K rows p c)) e)
+  hole-cell c e = and-left (isCell K p c) (not (isBounding K rows c)) (and-left (isClosed K rows p c) (not (isFilled K rows p c)) e)
 
   hole-open : (c : ℕ) → isHole K rows p c ≡ true → isFilled K rows p c ≡ false
-  hole-open c e = not-on (isFilled K rows p c) (right-on (isClosed K rows p c) (not (isFilled K rows p c)) e)
+  hole-open c e = not-on (isFilled K rows p c) (and-right (isClosed K rows p c) (not (isFilled K rows p c)) e)
 
   hole-cycle : (c : ℕ) → c < K .size → isHole K rows p c ≡ true → IsCycle K p (rows c)
   hole-cycle c l e = record {
     chain = row-chain K rows meets p c l (hole-cell c e);
-    closed = λ t. off-unless (boundary K (rows c) t) (λ h. clash (someHas-at (boundary K (rows c)) (K .size) t (near t h) h) quiet);
+    closed = λ t. not-true-false (boundary K (rows c) t) (λ h. clash (someHas-at (boundary K (rows c)) (K .size) t (near t h) h) quiet);
   }
     where
       near : (t : ℕ) → boundary K (rows c) t ≡ true → t < K .size
       near t h = (boundary-member K law (rows c) t h) .2 .face-below
 
       quiet : isBounding K rows c ≡ false
-      quiet = not-on (isBounding K rows c) (right-on (isCell K p c) (not (isBounding K rows c)) (left-on (isClosed K rows p c) (not (isFilled K rows p c)) e))
+      quiet = not-on (isBounding K rows c) (and-right (isCell K p c) (not (isBounding K rows c)) (and-left (isClosed K rows p c) (not (isFilled K rows p c)) e))
 
   tops-more : (m : ℕ) (xs : List Chain) → m < K .size → isHole K rows p m ≡ true → Found K rows p m xs
       → (s : List Bool) → length s ≡ suc (length xs) → chosen s ≡ true → (c : ℕ) × (isHole K rows p c ≡ true) × IsLargest (picked s (rows m ∷ xs)) c

@@ -8,6 +8,7 @@ use Prim.Native.Nat.{ℕ, _<_}
 use borrow.Author.Tests.{eq-eqb, ne-eqb, eqb-true}
 use lib.ListN.{getD}
 use lib.Dec.{eqb}
+use Rattle.counting.proofs.Cases.{not-true-false}
 use Rattle.table.specs.Kind.{faces}
 use Rattle.table.specs.Table.{dim, face, facesOf, live}
 use Rattle.table.specs.Audit.{auditGrounds}
@@ -17,7 +18,6 @@ use Rattle.table.specs.declared.Refusal.the-variants.{NotLive, SameCell, Dimens
 use Rattle.table.specs.declared.Verdict.the-variants.{Accepted, Refused}
 use Rattle.table.proofs.Records.{faces-at}
 use Rattle.audit.proofs.Grounds.{accepted-first, refused-first}
-use Rattle.audit.proofs.Records.{not-true-false}
 use Rattle.audit.proofs.Scans.{all-true, all-says}
 use Rattle.merge.specs.Merge.{sameFaces, mergeVerdict}
 use Rattle.merge.specs.Writing.{pairGrounds}

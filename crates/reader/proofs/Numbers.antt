@@ -7,10 +7,10 @@ use Prim.Native.Nat.{ℕ, _+_, _-_, _≤_, _<_}
 use native.Mathlib.Omega.{arith}
 use borrow.Author.Tests.{lt-ltb, le-ltb, ne-eqb}
 use lib.Dec.{eqb, ltb}
+use Rattle.counting.proofs.Cases.{not-true-false}
 use Rattle.table.specs.Audit.{all}
 use Rattle.counting.specs.Counting.{someHas, pick}
 use Rattle.audit.proofs.Scans.{all-true}
-use Rattle.audit.proofs.Records.{not-true-false}
 use Rattle.sketch.specs.Read.{numberIn, inBody, numberFits}
 
 -- a test over all numbers fails where it fails at one

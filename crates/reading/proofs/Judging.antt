@@ -8,6 +8,7 @@ use borrow.Author.Tests.{eqb-true, not-false, lt-ltb, le-ltb}
 use lib.ListN.{length}
 use lib.IntN.{ℤ, pos}
 use lib.Dec.{eqb}
+use Rattle.counting.proofs.Cases.{and-left, and-right}
 use Rattle.table.specs.Kind.{top}
 use Rattle.table.specs.Table.{cellsOf, Valid}
 use Rattle.table.specs.Audit.{sized, sound, onValidity, auditGrounds}
@@ -16,7 +17,6 @@ use Rattle.table.specs.declared.Refusal.{Refusal}
 use Rattle.table.specs.declared.Refusal.the-variants.{Length, NoSuchPlace, TooLarge, Misplaced}
 use Rattle.table.specs.declared.Verdict.{Verdict}
 use Rattle.table.specs.declared.Verdict.the-variants.{Accepted, Refused}
-use Rattle.audit.proofs.Scans.{and-left, and-right}
 use Rattle.audit.proofs.Valid.{sound-is-valid}
 use Rattle.audit.proofs.Grounds.{accepted-none-applies, refused-first, accepted-first}
 use Rattle.reading.specs.Sums.{integers}

@@ -10,9 +10,9 @@ use native.Mathlib.Omega.{arith}
 use lib.ListN.{length, getD}
 use lib.Seq.{ext-getD}
 use lib.IntN.{ℤ, pos}
+use Rattle.counting.proofs.Cases.{and-both, not-true-false}
 use Rattle.table.specs.Audit.{all}
-use Rattle.audit.proofs.Scans.{and-both, all-true}
-use Rattle.audit.proofs.Records.{not-true-false}
+use Rattle.audit.proofs.Scans.{all-true}
 use Rattle.reading.specs.Sums.{integers}
 
 pub integers-length : (n : ℕ) (f : ℕ → ℤ) → length (integers n f) ≡ n

@@ -9,9 +9,9 @@ use native.Mathlib.Numerals.{add-one}
 use native.Mathlib.Omega.{arith}
 use borrow.Author.Tests.{eq-eqb, eqb-true}
 use lib.Dec.{eqb}
+use Rattle.counting.proofs.Cases.{and-both, and-left, and-right}
 use Rattle.table.specs.Kind.{top, used}
 use Rattle.table.specs.Table.{dim, face, live, Live, Valid, isCell}
-use Rattle.audit.proofs.Scans.{and-left, and-right, and-both}
 use Rattle.table.proofs.Records.{live-says, live-true}
 use Rattle.audit.proofs.Places.{used-is}
 

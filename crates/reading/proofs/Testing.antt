@@ -11,12 +11,12 @@ use lib.IntN.{ℤ, pos, negsuc, natAbs}
 use lib.Dec.{eqb, leb}
 use mir.Syntax.{w64}
 use mir.Val.{SFits}
+use Rattle.counting.proofs.Cases.{not-true-false}
 use Rattle.table.specs.Kind.{top}
 use Rattle.table.specs.Table.{cellsOf, dim, isCell}
 use Rattle.table.specs.Audit.{all}
 use Rattle.reading.specs.Boundary.{limit, coefficient}
 use Rattle.reading.specs.Steps.{allSmall, allPlaced}
-use Rattle.audit.proofs.Records.{not-true-false}
 use Rattle.reading.proofs.Lists.{all-fails}
 use Rattle.reading.proofs.Living.{cell-true, cell-says}
 use Rattle.reading.proofs.Registers.{back, back-is}

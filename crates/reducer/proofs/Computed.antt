@@ -8,11 +8,12 @@ use mathlib.Core.List.{List, [], _∷_, _++_}
 use Prim.Native.Nat.{ℕ, zero, suc, _*_, _≤_, _<_}
 use native.Mathlib.Nat.{suc-inj}
 use native.Mathlib.Omega.{arith}
+use borrow.Author.Tests.{eq-eqb, eqb-true}
 use lib.Dec.{eqb}
 use lib.ListN.{length, getD}
 use Rattle.homology.specs.Cells.{_⊻_}
 use Rattle.homology.specs.Holes.{boundary}
-use Rattle.homology.proofs.Marks.{by-mark, by-order, clash, same-number, test-same}
+use Rattle.homology.proofs.Marks.{by-mark, by-order, clash}
 use Rattle.homology.proofs.Tops.{Below, largest-unique}
 use Rattle.bitset.specs.Bits.{member, sumOf}
 use Rattle.bitset.proofs.Marks.{length-sum}
@@ -167,7 +168,7 @@ module _ (t : List ℕ) (v : Valid t) (ev heights : List ℕ) (c : ℕ) (so : Wi
   unfolding owner
   no-owner x zero e none = stop (λ b m l g k. let high : boundaryHeight t x ≡ suc m = largest-is-height t v x m g in omega arith)
   no-owner x (suc i) e none = stop (λ b m l g k. clash
-      (test-same (getD heights b 0) (suc i) (so .each b l ∙ largest-is-height t v (rowOf t ev b) m k ∙ sym (largest-is-height t v x m g) ∙ e))
+      (eq-eqb (getD heights b 0) (suc i) (so .each b l ∙ largest-is-height t v (rowOf t ev b) m k ∙ sym (largest-is-height t v x m g) ∙ e))
       (highest-none c (λ a. eqb (getD heights a 0) (suc i)) none b l))
 
   -- an owner: an earlier row with the same largest cell
@@ -176,7 +177,7 @@ module _ (t : List ℕ) (v : Valid t) (ev heights : List ℕ) (c : ℕ) (so : Wi
   has-owner zero b e = absurd (omega arith)
   has-owner (suc m) b e =
       let r = highest-found c (λ a. eqb (getD heights a 0) (suc m)) b e in
-      (m, refl, r .0, height-is-largest t v (rowOf t ev b) m (sym (so .each b (r .0)) ∙ same-number (getD heights b 0) (suc m) (r .1)))
+      (m, refl, r .0, height-is-largest t v (rowOf t ev b) m (sym (so .each b (r .0)) ∙ eqb-true (getD heights b 0) (suc m) (r .1)))
 
   -- after the search, where the turns that follow are known to be the rule's
   one-turn : (fuel : ℕ) (x : List ℕ) → length x ≡ rowWidth t → boundaryHeight t x ≤ suc fuel → (more : ℕ → Outcome)

@@ -6,12 +6,13 @@ use mathlib.Core.Bool.{true, false}
 use mathlib.Core.List.{List}
 use Prim.Native.Nat.{ℕ, zero, suc, _<_}
 use native.Mathlib.Omega.{arith}
+use borrow.Author.Tests.{eq-eqb, eqb-true, ne-eqb}
 use lib.Dec.{eqb}
 use lib.ListN.{length, length-replicate}
 use Rattle.homology.specs.Cells.{_⊻_}
 use Rattle.homology.specs.Holes.{boundary}
 use Rattle.homology.specs.Evidence.{RuleA, RuleB, Meets}
-use Rattle.homology.proofs.Marks.{by-mark, clash, on-in-sum, same-number, test-same, test-other}
+use Rattle.homology.proofs.Marks.{by-mark, clash, on-in-sum}
 use Rattle.homology.proofs.Chains.{boundary-member}
 use Rattle.bitset.specs.Bits.{member, sumOf}
 use Rattle.bitset.proofs.Marks.{length-sum, length-toggled}
@@ -60,10 +61,10 @@ record OnTheWay (t : List ℕ) (c : ℕ) (x : List ℕ) : Type 0 where
 first-on-the-way : (t : List ℕ) (c : ℕ) → c < cellsOf t → live t c ≡ true → OnTheWay t c (alone t c)
 first-on-the-way t c inside living = record {
   wide = alone-width t c;
-  own = alone-member t c inside c ∙ test-same c c refl;
-  highest = λ s l. alone-member t c inside s ∙ test-other c s (λ e. omega arith);
+  own = alone-member t c inside c ∙ eq-eqb c c refl;
+  highest = λ s l. alone-member t c inside s ∙ ne-eqb c s (λ e. omega arith);
   alike = λ s e.
-      let q : c ≡ s = same-number c s (sym (alone-member t c inside s) ∙ e) in
+      let q : c ≡ s = eqb-true c s (sym (alone-member t c inside s) ∙ e) in
       (subst (λ (u : ℕ). live t u ≡ true) q living, ap (dim t) (sym q));
 }
 

@@ -10,9 +10,10 @@ use native.Mathlib.Omega.{arith}
 use lib.Bits.{bitXor}
 use lib.ListN.{length, getD, set, take, drop, replicate, length-set, length-replicate}
 use lib.Seq.{take-set-lt, drop-set-add, getD-take, length-take-le}
+use Rattle.counting.proofs.Cases.{not-true-false}
 use Rattle.homology.specs.Cells.{_⊻_}
 use Rattle.homology.specs.Holes.{boundary}
-use Rattle.homology.proofs.Marks.{off-unless, off-⊻}
+use Rattle.homology.proofs.Marks.{off-⊻}
 use Rattle.bitset.specs.Bits.{bits, digit, mark, member, toggled}
 use Rattle.bitset.proofs.LowBit.{toggled-by-shift}
 use Rattle.table.specs.Table.{cellsOf, Live, Valid}
@@ -74,7 +75,7 @@ module _ (t : List ℕ) (v : Valid t) (c : ℕ) (living : Live t c) where
       ∙ added .same s
       ∙ ap (λ (m : Bool). m ⊻ oddFace t c s) (member-zeros boundaryWords s)
       ∙ off-⊻ (oddFace t c s))
-      (λ past. member-past x s (omega arith) ∙ sym (off-unless (oddFace t c s) (λ e. omega (arith, valid-is-lawful t v .faces c s e .face-below))))
+      (λ past. member-past x s (omega arith) ∙ sym (not-true-false (oddFace t c s) (λ e. omega (arith, valid-is-lawful t v .faces c s e .face-below))))
 
   started-row : (ev : List ℕ) → rowOf t ev c ≡ emptyRow t → rowOf t (withCell (rowWidth t) ev c) c ≡ alone t c
   unfolding alone

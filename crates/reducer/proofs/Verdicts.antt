@@ -9,7 +9,8 @@ use native.Mathlib.Omega.{arith}
 use borrow.Author.Tests.{eq-eqb, ne-eqb, eqb-true, leb-true}
 use lib.Dec.{eqb, leb}
 use lib.ListN.{length, replicate}
-use Rattle.homology.proofs.Marks.{by-mark, both, left-on, right-on, &&-off}
+use Rattle.counting.proofs.Cases.{and-both, and-left, and-right}
+use Rattle.homology.proofs.Marks.{by-mark, &&-off}
 use Rattle.bitset.specs.Bits.{wordsFor}
 use Rattle.counting.specs.Counting.{pick}
 use Rattle.table.specs.Kind.{capacity, top, width}
@@ -31,7 +32,7 @@ use Rattle.reducer.specs.declared.Reduced.{Reduced}
 tests : Bool → Bool → Verdict
 tests fits whole = pick (not fits) (Refused Length) (pick (not whole) (Refused Invalid) Accepted)
 
--- whether both lengths fit
+-- whether and-both _ _ lengths fit
 fitting : List ℕ → List ℕ → Bool
 fitting t ev = sized t && eqb (length ev) (evidenceWords t)
 
@@ -95,7 +96,7 @@ module _ (t ev : List ℕ) (n w : ℕ) (cells : n ≡ sizedCells t) (some : n �
   unfolding fitting
   as-audited e =
       audit-by t
-      ∙ ap (λ (b : Bool). tests b (sound t)) (on ∙ sym (both on (eq-eqb (length ev) (evidenceWords t) (e ∙ area))))
+      ∙ ap (λ (b : Bool). tests b (sound t)) (on ∙ sym (and-both _ _ on (eq-eqb (length ev) (evidenceWords t) (e ∙ area))))
       ∙ sym (verdict-by t ev)
 
 -- acceptance
@@ -105,11 +106,11 @@ module _ (t ev : List ℕ) (yes : reduceVerdict t ev ≡ Accepted) where
 
   pub accepted-valid : Valid t
   unfolding fitting
-  accepted-valid = sound-is-valid t (left-on (sized t) (eqb (length ev) (evidenceWords t)) (both-on .0)) (both-on .1)
+  accepted-valid = sound-is-valid t (and-left (sized t) (eqb (length ev) (evidenceWords t)) (both-on .0)) (both-on .1)
 
   pub accepted-long : length ev ≡ evidenceWords t
   unfolding fitting
-  accepted-long = eqb-true (length ev) (evidenceWords t) (right-on (sized t) (eqb (length ev) (evidenceWords t)) (both-on .0))
+  accepted-long = eqb-true (length ev) (evidenceWords t) (and-right (sized t) (eqb (length ev) (evidenceWords t)) (both-on .0))
 
   pub accepted-ends : (r : Reduced) (ev′ : List ℕ) → r .verdict ≡ Accepted → Reduction t ev′ (r .additions) → Reduces t ev r ev′
   accepted-ends r ev′ e done = record {

@@ -11,9 +11,10 @@ use borrow.Author.Tests.{eq-eqb, eqb-true}
 use lib.Dec.{eqb}
 use lib.ListN.{length, getD, take, replicate, length-take, List·getD-eq-default}
 use lib.Seq.{getD-take, take-all}
+use Rattle.counting.proofs.Cases.{and-left}
 use Rattle.homology.specs.Cells.{_⊻_}
 use Rattle.homology.specs.Holes.{sum, boundary}
-use Rattle.homology.proofs.Marks.{by-order, left-on, ⊻-off, off-⊻}
+use Rattle.homology.proofs.Marks.{by-order, ⊻-off, off-⊻}
 use Rattle.homology.proofs.Chains.{boundary-sum}
 use Rattle.bitset.specs.Bits.{bits, digit, mark, member}
 use Rattle.bitset.proofs.Marks.{mark-of-zero-word, false-member}
@@ -57,7 +58,7 @@ pub word-of-live-row : (t ev : List ℕ) (c w v : ℕ) → RowLive t ev c → v 
 unfolding rows wordCells
 word-of-live-row t ev c w v living e = record {
   each = λ s g.
-      living .each s (member-of-word (rowOf t ev c) w s (eqb-true (s / bits) w (left-on (eqb (s / bits) w) (eqb (digit v (s % bits)) 1) g))
+      living .each s (member-of-word (rowOf t ev c) w s (eqb-true (s / bits) w (and-left (eqb (s / bits) w) (eqb (digit v (s % bits)) 1) g))
       ∙ ap (λ (u : ℕ). wordCells w u s) (sym e)
       ∙ g);
 }

@@ -9,13 +9,12 @@ use native.Mathlib.Nat.{not-suc-le-zero, le-max-left, le-max-right, max-eq-left,
 use native.Mathlib.Numerals.{add-one}
 use native.Mathlib.Omega.{arith}
 use Rattle.counting.specs.Counting.{someHas, pick}
-use Rattle.counting.proofs.Cases.{below-or-not, true-or-false}
+use Rattle.counting.proofs.Cases.{below-or-not, true-or-false, not-true-false}
 use Rattle.counting.proofs.Counting.{someHas-at, someHas-each}
 use Rattle.table.specs.Kind.{top, faces}
 use Rattle.table.specs.Table.{cellsOf, dim, live}
 use Rattle.table.proofs.Records.{live-says, live-true}
 use Rattle.audit.proofs.Scans.{at-or-below}
-use Rattle.audit.proofs.Records.{not-true-false}
 use Rattle.sheet.specs.Sheet.{largestDim}
 use Rattle.sheet.specs.Sides.{levelsBelow}
 

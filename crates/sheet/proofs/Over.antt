@@ -6,10 +6,10 @@ use mathlib.Core.List.{List}
 use Prim.Native.Nat.{ℕ, suc, _<_}
 use borrow.Author.Tests.{eq-eqb, eqb-true}
 use lib.Dec.{eqb}
+use Rattle.counting.proofs.Cases.{and-both, and-right}
 use Rattle.counting.proofs.Counting.{someHas-at, someHas-one}
 use Rattle.table.specs.Kind.{used}
 use Rattle.table.specs.Table.{cellsOf, dim, face, Live, live, Valid}
-use Rattle.audit.proofs.Scans.{and-right, and-both}
 use Rattle.table.proofs.Records.{live-says}
 use Rattle.audit.proofs.Places.{used-says}
 use Rattle.sheet.specs.Sheet.{hasFace, covered}

@@ -14,9 +14,8 @@ use Rattle.counting.specs.Counting.{someHas, pick}
 use Rattle.table.specs.Kind.{top}
 use Rattle.table.specs.Table.{cellsOf, dim, Live, live, Valid}
 use Rattle.table.specs.Audit.{all}
-use Rattle.audit.proofs.Scans.{and-both, or-else, all-true, all-says}
-use Rattle.counting.proofs.Cases.{below-or-not}
-use Rattle.audit.proofs.Records.{not-true-false}
+use Rattle.audit.proofs.Scans.{or-else, all-true, all-says}
+use Rattle.counting.proofs.Cases.{below-or-not, and-both, not-true-false}
 use Rattle.sheet.specs.Sheet.{topDim, isSheet}
 use Rattle.sheet.specs.Sides.{levelsBelow, sidesBelow, Counted, passes, allPass}
 use Rattle.sheet.proofs.Dimensions.{levels-are}

@@ -13,10 +13,9 @@ use Rattle.counting.specs.Counting.{someHas}
 use Rattle.counting.proofs.Counting.{someHas-at}
 use Rattle.table.specs.Table.{cellsOf, dim, face, Live, live, Valid}
 use Rattle.table.specs.Audit.{all}
-use Rattle.audit.proofs.Scans.{and-left, and-right, and-both, or-else, all-true, all-says}
-use Rattle.counting.proofs.Cases.{same-or-not}
+use Rattle.audit.proofs.Scans.{or-else, all-true, all-says}
+use Rattle.counting.proofs.Cases.{same-or-not, and-both, and-left, and-right, not-true-false}
 use Rattle.table.proofs.Records.{live-says, live-true}
-use Rattle.audit.proofs.Records.{not-true-false}
 use Rattle.sheet.specs.Sheet.{Reached, itself, through, wings, IsSheet, topDim, covered, isSheet}
 use Rattle.sheet.proofs.Dimensions.{largest-bounds, largest-attained}
 use Rattle.sheet.proofs.Over.{covered-over, over-covered, over-dim}

@@ -5,10 +5,10 @@ use mathlib.Core.Bool.{true}
 use mathlib.Core.List.{List, _++_}
 use Prim.Native.Nat.{ℕ, _<_}
 use borrow.Author.Tests.{eq-eqb, eqb-true}
+use Rattle.counting.proofs.Cases.{and-both, and-left, and-right}
 use Rattle.table.specs.Table.{cellsOf, dim, face, Live, live, isCell}
 use Rattle.counting.specs.Counting.{nth}
 use Rattle.counting.proofs.Counting.{nth-has}
-use Rattle.audit.proofs.Scans.{and-left, and-right, and-both}
 use Rattle.table.proofs.Records.{live-says, live-true}
 use Rattle.sketch.specs.Form.{dimensions}
 use Rattle.sketch.specs.Written.{countOf, cellBytes, bodyOf, contentsOf, fileOf}

@@ -8,9 +8,10 @@ use native.Mathlib.Omega.{arith}
 use borrow.Author.Tests.{eq-eqb, ne-eqb, le-leb, lt-ltb, eqb-true, leb-true, ltb-true, not-true}
 use lib.ListN.{length}
 use lib.Dec.{leb, ltb, eqb}
+use Rattle.counting.proofs.Cases.{and-both, and-left, and-right}
 use Rattle.table.specs.Audit.{all}
 use Rattle.counting.proofs.Counting.{someHas-each, someHas-none}
-use Rattle.audit.proofs.Scans.{and-left, and-right, and-both, or-else, all-true, all-says}
+use Rattle.audit.proofs.Scans.{or-else, all-true, all-says}
 use Rattle.sketch.specs.Form.{twoAt, fourAt, dimensions, contentsSize, offsetPlace, bodyStart}
 use Rattle.sketch.specs.Read.{countIn, numberIn, contentsFit, inBody, numberFits, numbersFit}
 

@@ -8,18 +8,17 @@ use native.Mathlib.Omega.{arith}
 use borrow.Author.Tests.{eq-eqb, le-leb, lt-ltb, le-ltb, leb-true, ltb-true}
 use lib.Dec.{leb, ltb}
 use lib.ListN.{length, getD}
+use Rattle.counting.proofs.Cases.{and-left, and-right}
 use Rattle.table.specs.Kind.{capacity, top, faces, width}
 use Rattle.table.specs.Table.{cellsOf, dim, face, facesOf, Sized, sizedCells, Live, live}
-
-both-hold : (a b : Bool) → (a && b) ≡ true → (a ≡ true) × (b ≡ true)
-both-hold true b e = (refl, e)
-both-hold false b e = absurd (false≢true e)
 
 pub live-true : (t : List ℕ) (c : ℕ) → live t c ≡ true → Live t c
 unfolding live
 live-true t c e =
-    let h = both-hold (ltb c (cellsOf t)) (leb (dim t c) top) e in
-    record { inside = ltb-true c (cellsOf t) (h .0); low = leb-true (dim t c) top (h .1) }
+    record {
+      inside = ltb-true c (cellsOf t) (and-left (ltb c (cellsOf t)) (leb (dim t c) top) e);
+      low = leb-true (dim t c) top (and-right (ltb c (cellsOf t)) (leb (dim t c) top) e);
+    }
 
 pub live-says : (t : List ℕ) (c : ℕ) → Live t c → live t c ≡ true
 unfolding live
