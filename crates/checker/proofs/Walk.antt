@@ -20,7 +20,8 @@ use Rattle.checker.specs.declared.Finding.the-variants.{BreaksA, BreaksB
 use Rattle.checker.proofs.Faults.{Passed, passed-none, passed-more, all-pass, first-breaks-a, first-breaks-b}
 use Rattle.checker.proofs.Accepting.{rows-decide, passed-meets}
 use Rattle.checker.proofs.LargestMet.{Met, met-none, met-closed, met-bounds, closed-keeps-b, unmet-keeps-b, met-breaks-b, top-fits}
-use Rattle.checker.proofs.Tallies.{Tally, isBoundingAt, tally-none, tally-small, row-counted, row-skipped, rows-counted, bounding-live}
+use Rattle.counting.proofs.Tallies.{Tally, tally-none, tally-most}
+use Rattle.checker.proofs.Tallies.{isBoundingAt, row-counted, row-skipped, rows-counted, bounding-live}
 
 -- the rows below c pass, xs holds the largest cells met, and rs counts the rows with a boundary by dimension
 pub record Walked (t ev : List ℕ) (c : ℕ) (xs rs : List ℕ) : Type 0 where
@@ -69,7 +70,7 @@ module _ (t ev : List ℕ) (v : Valid t) (long : length ev ≡ evidenceWords t) 
       omega (arith, bounding-live t ev v long c inside (f .1 .0) (f .0) (f .1 .1) .low)
 
   pub counter-small : (p : ℕ) → p ≤ top → getD rs p 0 < capacity
-  counter-small p h = omega (arith, tally-small (top + 2) (isBoundingAt t ev) c rs p (omega arith) (w .tally), v .sized .room)
+  counter-small p h = omega (arith, tally-most (w .tally) p (omega arith), v .sized .room)
 
   pub walk-bounds : (found : Finding) → found ≡ Bounds → Found t ev c xs ys found → (p : ℕ) → p ≡ dim t c → Walked t ev (c + 1) ys (set rs p (getD rs p 0 + 1))
   walk-bounds found e g p q =

@@ -7,7 +7,8 @@ use Prim.Native.Nat.{ℕ, zero, suc, _+_, _≤_, _<_}
 use native.Mathlib.Omega.{arith}
 use lib.Dec.{eqb}
 use lib.ListN.{length, getD}
-use Rattle.homology.specs.Cells.{Cells, count, markOf}
+use Rattle.counting.proofs.Counting.{howMany-most}
+use Rattle.homology.specs.Cells.{Cells}
 use Rattle.homology.specs.Holes.{IsHoleNumber}
 use Rattle.homology.specs.Evidence.{Rows, cellsIn, holesIn}
 use Rattle.table.specs.Kind.{capacity, top}
@@ -42,18 +43,9 @@ reducer-is-accepted t ev ev′ r v h e =
 
 -- ---- the numbers are small
 
-mark-small : (b : Bool) → markOf b ≤ 1
-mark-small true = omega arith
-mark-small false = omega arith
-
-count-small : (n : ℕ) (f : ℕ → Bool) → count n f ≤ n
-unfolding count
-count-small zero f = omega arith
-count-small (suc n) f = omega (arith, count-small n f, mark-small (f n))
-
 cells-in-small : (K : Cells) (p : ℕ) → cellsIn K p ≤ K .size
 unfolding cellsIn
-cells-in-small K p = count-small (K .size) (λ c. K .live c && eqb (K .dim c) p)
+cells-in-small K p = howMany-most (λ c. K .live c && eqb (K .dim c) p) (K .size)
 
 holes-in-small : (K : Cells) (rs : Rows) (p : ℕ) → holesIn K rs p ≤ cellsIn K p
 unfolding holesIn

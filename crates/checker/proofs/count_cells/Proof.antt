@@ -6,16 +6,17 @@ use mathlib.Core.Logic.{⊎-elim}
 use Prim.Native.Nat.{ℕ, _+_, _-_, _≤_, _<_}
 use native.Mathlib.Omega.{arith}
 use borrow.Author.Needs.{needs}
+use Rattle.counting.proofs.Tallies.{Tally, tally-none, tally-most}
 use Rattle.table.specs.Kind.{top}
-use Rattle.table.specs.Table.{cellsOf}
+use Rattle.table.specs.Table.{cellsOf, isCell}
 use Rattle.table.proofs.Records.{sized-cells-is}
-use Rattle.checker.proofs.Tallies.{Tally, isCellAt}
-use Rattle.checker.proofs.Tallies.{tally-none, tally-small, cell-counted, free-skipped, cells-listed}
+use Rattle.table.proofs.Dimensions.{cell-counted, free-skipped}
+use Rattle.checker.proofs.Tallies.{cells-listed}
 use Rattle.checker.proofs.count_cells.Statement.{statement}
 use Rattle.checker.proofs.count_cells.Tie as tie
 
 abbrev Inv-loop : tie.InvT-loop
-Inv-loop t n counts₀ c₀ counts c = (c ≤ n) × Tally (top + 1) (isCellAt t) c counts
+Inv-loop t n counts₀ c₀ counts c = (c ≤ n) × Tally (top + 1) (isCell t) c counts
 
 abbrev μ-loop : tie.MeasureT-loop
 μ-loop t n counts₀ c₀ counts c = n - c
@@ -46,7 +47,7 @@ add-counts : tie.Need-add-counts Inv-loop μ-loop
 add-counts c =
     let l = c .before .before .before in
     let a = l .before .before .before in
-    omega (arith, tally-small (top + 1) (isCellAt (a .args .t .now)) (l .loop .c) (l .loop .counts) (c .before .dim .result) (omega (arith, c .if1 .taken)) (l .loop .inv .1), c .before .before .loop-test .taken, n-is (l .before), a .pre .sized .room)
+    omega (arith, tally-most (l .loop .inv .1) (c .before .dim .result) (omega (arith, c .if1 .taken)), c .before .before .loop-test .taken, n-is (l .before), a .pre .sized .room)
 
 array-write-counts : tie.Need-array-write-counts Inv-loop μ-loop
 array-write-counts c = search needs
@@ -64,10 +65,10 @@ loop-again c =
     let inside : l .loop .c < cellsOf t = omega (arith, c .before .before .loop-test .taken, n-is (l .before)) in (
       search needs,
       ⊎-elim
-          (λ w. subst (λ (xs : List ℕ). Tally (top + 1) (isCellAt t) (l .loop .c + 1) xs) (sym (w .1))
-          (cell-counted t (l .loop .c) (top + 1) _ (l .loop .counts) (c .before .dim .ensures) (omega (arith, w .0 .taken)) (record { inside = inside; low = omega (arith, w .0 .taken, c .before .dim .ensures) }) (l .loop .inv .1)))
-          (λ w. subst (λ (xs : List ℕ). Tally (top + 1) (isCellAt t) (l .loop .c + 1) xs) (sym (w .1))
-          (free-skipped t (l .loop .c) (top + 1) _ (l .loop .counts) (c .before .dim .ensures) (w .0 .left) (l .loop .inv .1)))
+          (λ w. subst (λ (xs : List ℕ). Tally (top + 1) (isCell t) (l .loop .c + 1) xs) (sym (w .1))
+          (cell-counted t (l .loop .c) (c .before .dim .ensures) (l .loop .inv .1) (omega (arith, w .0 .taken)) (record { inside = inside; low = omega (arith, w .0 .taken, c .before .dim .ensures) })))
+          (λ w. subst (λ (xs : List ℕ). Tally (top + 1) (isCell t) (l .loop .c + 1) xs) (sym (w .1))
+          (free-skipped t (l .loop .c) (c .before .dim .ensures) (l .loop .inv .1) (omega (arith, w .0 .left))))
           (c .if1 .came),
     )
 
