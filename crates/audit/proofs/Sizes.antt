@@ -1,18 +1,16 @@
--- The test of the length says `Sized`, and the test of a cell says `Live`.
--- What carries them: the cases of the two tests. Assumes nothing.
+-- The test of the length says `Sized`. What carries it: the cases of its two parts. Assumes nothing.
 use mathlib.Core.Path.{_≡_, refl, ap}
 use mathlib.Core.Bool.{Bool, true, false, not, false≢true}
 use mathlib.Core.List.{List}
 use Prim.Native.Nat.{ℕ, _%_, _≤_}
 use native.Mathlib.Omega.{arith}
 use native.Mathlib.Nat.{div-add-mod'}
-use borrow.Author.Tests.{eq-eqb, ne-eqb, le-leb, lt-ltb, eqb-true, eqb-false, leb-true, ltb-true, not-true}
+use borrow.Author.Tests.{eq-eqb, ne-eqb, eqb-true, eqb-false, leb-true, not-true}
 use lib.ListN.{length}
-use lib.Dec.{leb, ltb, eqb}
-use Rattle.counting.proofs.Cases.{and-both, and-left, and-right}
+use lib.Dec.{leb, eqb}
 use Rattle.counting.specs.Counting.{pick}
-use Rattle.table.specs.Kind.{capacity, top, width}
-use Rattle.table.specs.Table.{cellsOf, dim, Sized, sizedCells, Live, live}
+use Rattle.table.specs.Kind.{capacity, width}
+use Rattle.table.specs.Table.{cellsOf, Sized, sizedCells}
 use Rattle.table.proofs.Records.{sized-cells-is}
 use Rattle.table.specs.Audit.{sized}
 

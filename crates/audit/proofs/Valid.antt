@@ -2,24 +2,22 @@
 -- What carries it: each of the published lines is one of the three tests of a cell, and the search passes a cell exactly where
 -- all three hold. Assumes nothing.
 use mathlib.Core.Path.{_≡_, refl, ap}
-use mathlib.Core.Bool.{Bool, true, false, not, _||_}
+use mathlib.Core.Bool.{Bool, true, false, _||_}
 use mathlib.Core.List.{List}
 use mathlib.Core.Logic.{_⊎_, inl, inr, ⊎-elim, _↔_}
 use Prim.Native.Nat.{ℕ, suc, _-_, _≤_, _<_}
 use native.Mathlib.Omega.{arith}
-use borrow.Author.Tests.{eq-eqb, le-leb, lt-ltb, le-ltb, eqb-true, leb-true, ltb-true, ltb-false}
+use borrow.Author.Tests.{eq-eqb, le-leb, lt-ltb, le-ltb, eqb-true, leb-true, ltb-true, ltb-false, not-false}
 use lib.Dec.{leb, ltb, eqb}
-use Rattle.counting.proofs.Cases.{and-both, and-left, and-right}
-use Rattle.counting.specs.Counting.{pick}
 use Rattle.table.specs.Kind.{top, faces, freeMark, used}
 use Rattle.table.specs.Table.{cellsOf, dim, face, Live, Valid}
 use Rattle.table.specs.Audit.{all, scan, orElse, isSound, recordSound, faceSound, lawSound, lawPlaces, recordBreach, faceBreach, lawBreach, cellBreach, firstBreach, sized, sound, auditGrounds}
 use Rattle.table.specs.Calls.{verdict}
 use Rattle.table.specs.declared.Breach.{Breach}
 use Rattle.table.specs.declared.Breach.the-variants.{Sound, Record, Face, Law}
-use Rattle.table.specs.declared.Refusal.{Refusal}
-use Rattle.table.specs.declared.Refusal.the-variants.{Length, Invalid}
-use Rattle.table.specs.declared.Verdict.the-variants.{Accepted, Refused}
+use Rattle.table.specs.declared.Verdict.the-variants.{Accepted}
+use Rattle.audit.proofs.Grounds.{accepted-none-applies}
+use Rattle.counting.proofs.Cases.{and-left, and-right, and-both}
 use Rattle.audit.proofs.Scans.{or-else, all-true, all-says, or-else-left, or-else-right, or-else-both, sound-true, picked-sound, picks-sound, scan-none, scan-each}
 use Rattle.audit.proofs.Sizes.{sized-is-sized, sized-says}
 use Rattle.audit.proofs.Places.{used-is, used-says, law-places-is, law-places-says}
@@ -179,17 +177,8 @@ valid-is-sound t v = cells-sound t (valid-cell t v)
 pub valid-is-sized : (t : List ℕ) → Valid t → sized t ≡ true
 valid-is-sized t v = sized-says t (v .sized)
 
--- Each ground of the audit decides by its own test.
-refused-not-accepted : (r : Refusal) → Refused r ≡ Accepted → ⊥
-refused-not-accepted r e = let z : _≡_ {A = ℕ} 0 1 = cc in omega arith
-
-accepted-cases : (a b : Bool) → pick (not a) (Refused Length) (pick (not b) (Refused Invalid) Accepted) ≡ Accepted → (a ≡ true) × (b ≡ true)
-accepted-cases true true e = (refl, refl)
-accepted-cases true false e = absurd (refused-not-accepted Invalid e)
-accepted-cases false b e = absurd (refused-not-accepted Length e)
-
 pub audit-accepts-iff-valid : (t : List ℕ) → (verdict (auditGrounds t) ≡ Accepted) ↔ Valid t
 audit-accepts-iff-valid t = (
-  λ e. let k = accepted-cases (sized t) (sound t) e in sound-is-valid t (k .0) (k .1),
+  λ e. let k = accepted-none-applies (auditGrounds t) e in sound-is-valid t (not-false (sized t) (k .0)) (not-false (sound t) (k .1 .0)),
   λ v. simp (valid-is-sized t v, valid-is-sound t v),
 )

@@ -1,6 +1,6 @@
 // Emptying a table, and the audit: one pass over the cells, left by its label at the first breach.
 ghost use mathlib.Core.Path.{_≡_};
-ghost use Prim.Native.Nat.{_*_, _≤_, _<_};
+ghost use Prim.Native.Nat.{_≤_, _<_};
 ghost use Rattle.table.specs.Kind.{faces};
 ghost use Rattle.table.specs.Table.{cellsOf, Sized};
 ghost use Rattle.table.specs.Audit.{recordSound, lawPlaces, firstBreach, auditGrounds};
@@ -27,13 +27,12 @@ pub fn empty(t: &mut [u16]) -> Verdict
     Verdict::Accepted
 }
 
-// Whether word 0 of record c is a dimension or the free mark, and every word that it leaves unused is the free mark.
+// Whether record c has a dimension or is free, and every face place that it leaves unused is the free mark.
 fn record_sound(t: &[u16], c: usize) -> bool
     requires { ⌜ c < cellsOf (now t) ⌝ }
     ensures { λ r. ⌜ r ≡ recordSound (now (t .entry)) c ⌝ }
 {
-    let at = c * Table::WORDS;
-    let p = t[at];
+    let p = Table::dim(t, c);
     if p > Table::TOP {
         if p != Table::FREE {
             return false;
@@ -41,7 +40,7 @@ fn record_sound(t: &[u16], c: usize) -> bool
     }
     let mut j = Table::used(p);
     while j < Table::FACES {
-        if t[at + (1 + j)] != Table::FREE {
+        if Table::face(t, c, j) != Table::FREE {
             return false;
         }
         j += 1;
@@ -49,7 +48,7 @@ fn record_sound(t: &[u16], c: usize) -> bool
     true
 }
 
-// How many face places of a cell with this word 0 the law speaks of.
+// How many face places of a cell of this dimension the law speaks of.
 fn law_places(p: u16) -> usize
     ensures { λ r. ⌜ (r ≡ lawPlaces p) × (r ≤ faces) ⌝ }
 {
@@ -61,19 +60,19 @@ fn law_places(p: u16) -> usize
 
 // The first breach of a table of the right length: cell by cell the record, then the face places, then the pairs of the law by j,
 // then l. The label leaves every loop at the first failure. The seven faces are read by value once, and f and e lie inside by
-// then, so the law's reads are plain words. A part of the audit and no public call: its caller shows the length.
+// then, so the law's reads ask nothing more. A part of the audit and no public call: its caller shows the length.
 pub fn first_breach(t: &[u16]) -> Breach
     requires { ⌜ Sized (now t) ⌝ }
     ensures { λ r. ⌜ r ≡ firstBreach (now (t .entry)) ⌝ }
 {
-    let n = t.len() / Table::WORDS;
+    let n = Table::room(t);
     let mut found = Breach::Sound;
     'cells: for c in 0..n {
         if !record_sound(t, c) {
             found = Breach::Record(c);
             break 'cells;
         }
-        let p = t[c * Table::WORDS];
+        let p = Table::dim(t, c);
         let used = Table::used(p);
         let places = law_places(p);
         let faces = Table::faces(t, c);
@@ -83,7 +82,7 @@ pub fn first_breach(t: &[u16]) -> Breach
                 found = Breach::Face(c, j);
                 break 'cells;
             }
-            if t[f * Table::WORDS] as usize + 1 != p as usize {
+            if Table::dim(t, f) as usize + 1 != p as usize {
                 found = Breach::Face(c, j);
                 break 'cells;
             }
@@ -92,7 +91,7 @@ pub fn first_breach(t: &[u16]) -> Breach
             let f = faces[j] as usize;
             for l in 0..j {
                 let e = faces[l] as usize;
-                if t[f * Table::WORDS + (1 + l)] != t[e * Table::WORDS + j] {
+                if Table::face(t, f, l) != Table::face(t, e, j - 1) {
                     found = Breach::Law(c, j, l);
                     break 'cells;
                 }

@@ -1,39 +1,36 @@
 -- `audit::first_breach` meets its contract: where the pass stops, the breach is the first one, and where it ends there is none.
 -- The invariants: Ic, every cell below c has passed; If, every face place of c below j; Ij, all its face places, and every pair of
--- the law below j; Il, every pair of j with a place below l, and the faces that the law reads lie inside. In each nothing is found
--- yet. The measures, μc to μl: what is left of each range. Assumes nothing.
+-- the law below j; Il, every pair of j with a place below l. In each nothing is found yet. The measures, μc to μl: what is left of
+-- each range. Assumes nothing.
 use mathlib.Core.Path.{_≡_, refl, sym, _∙_}
-use Prim.Native.Nat.{ℕ, _-_, _*_, _≤_, _<_}
+use Prim.Native.Nat.{_-_, _≤_}
 use native.Mathlib.Omega.{arith}
 use borrow.Author.Needs.{needs}
 use borrow.Author.Tests.{not-true, not-false}
-use lib.ListN.{getD}
-use Rattle.table.specs.Kind.{width, used as usedOf}
-use Rattle.table.specs.Table.{cellsOf}
 use Rattle.table.specs.Audit.{scan, faceBreach, lawBreach, cellBreach}
 use Rattle.table.specs.declared.Breach.the-variants.{Sound}
 use Rattle.audit.proofs.Scans.{scan-zero}
 use Rattle.audit.proofs.Valid.{lawScan}
-use Rattle.audit.proofs.Passes.{Here, stops-at-record, none-found, stops-outside, stops-at-dim, face-passes, faces-pass, faces-inside, stops-at-law, pair-passes, place-passes, cell-passes}
+use Rattle.audit.proofs.Passes.{Here, stops-at-record, none-found, stops-outside, stops-at-dim, face-passes, faces-pass, face-known, stops-at-law, pair-passes, place-passes, cell-passes}
 use Rattle.audit.proofs.first_breach.Statement.{statement}
 use Rattle.audit.proofs.first_breach.Tie as tie
 
 abbrev If : tie.InvT-loop
-If t n found₀ c p used places faces j₀ found j = (j ≤ used) × (found ≡ Sound) × (scan (faceBreach t c) j ≡ Sound)
+If t n found₀ c p used places faces j₀ found j =
+    (j ≤ used) × (found ≡ Sound) × Here t n c p used places faces × (scan (faceBreach t c) j ≡ Sound)
 
 abbrev μf : tie.MeasureT-loop
 μf t n found₀ c p used places faces j₀ found j = used - j
 
 abbrev Il : tie.InvT-loop3
-Il t n found₀ c p used places faces j f l₀ found l =
-    (l ≤ j) × (found ≡ Sound) × ((k : ℕ) → k ≤ j → getD faces k 0 < n) × (scan (lawBreach t c j) l ≡ Sound)
+Il t n found₀ c p used places faces j f l₀ found l = (l ≤ j) × (found ≡ Sound) × (scan (lawBreach t c j) l ≡ Sound)
 
 abbrev μl : tie.MeasureT-loop3
 μl t n found₀ c p used places faces j f l₀ found l = j - l
 
 abbrev Ij : tie.InvT-loop2
 Ij t n found₀ c p used places faces j₀ found j =
-    (j ≤ places) × (found ≡ Sound) × (scan (faceBreach t c) (usedOf p) ≡ Sound) × (scan (lawScan t c) j ≡ Sound)
+    (j ≤ places) × (found ≡ Sound) × (scan (faceBreach t c) used ≡ Sound) × (scan (lawScan t c) j ≡ Sound)
 
 abbrev μj : tie.MeasureT-loop2
 μj t n found₀ c p used places faces j₀ found j = places - j
@@ -44,35 +41,17 @@ Ic t n found₀ c₀ found c = (c ≤ n) × (found ≡ Sound) × (scan (cellBrea
 abbrev μc : tie.MeasureT-cells
 μc t n found₀ c₀ found c = n - c
 
--- what is known of a cell once its record is sound and its faces are read
-here :
-    (c : tie.After-faces If μf Il μl Ij μj Ic μc) →
-    Here (c .before .before .before .before .before .before .before .before .before .args .t .now) (cellsOf (c .before .before .before .before .before .before .before .before .before .args .t .now)) (c .before .before .before .before .before .before .before .cells .c) (c .before .before .used .result) (c .before .law-places .result) (c .faces .result)
-here c =
-    record {
-      cells = refl;
-      inside = c .before .before .before .before .before .before .cells-test .taken;
-      earlier = c .before .before .before .before .before .before .before .cells .inv .2;
-      recorded = sym (c .before .before .before .before .before .record-sound .ensures) ∙ not-false _ (c .before .before .before .before .if1 .left);
-      places-used = c .before .before .used .ensures .0;
-      places-law = c .before .law-places .ensures .0;
-      by-value = c .faces .ensures;
-    }
+room-requires : tie.Need-room-requires If μf Il μl Ij μj Ic μc
+room-requires c κs = search needs
 
 cells-holds : tie.Need-cells-holds If μf Il μl Ij μj Ic μc
-cells-holds c = (omega arith, refl, scan-zero _)
+cells-holds c = (search needs, refl, scan-zero _)
 
 record-sound-requires : tie.Need-record-sound-requires If μf Il μl Ij μj Ic μc
 record-sound-requires c κs = search needs
 
-mul-p : tie.Need-mul-p If μf Il μl Ij μj Ic μc
-mul-p c = omega arith
-
-mul-p-2 : tie.Need-mul-p-2 If μf Il μl Ij μj Ic μc
-mul-p-2 c = omega arith
-
-shared-slice-read-p : tie.Need-shared-slice-read-p If μf Il μl Ij μj Ic μc
-shared-slice-read-p c = omega arith
+dim-requires : tie.Need-dim-requires If μf Il μl Ij μj Ic μc
+dim-requires c κs = search needs
 
 used-requires : tie.Need-used-requires If μf Il μl Ij μj Ic μc
 used-requires c κs = search needs
@@ -84,136 +63,150 @@ faces-requires : tie.Need-faces-requires If μf Il μl Ij μj Ic μc
 faces-requires c κs = search needs
 
 loop-holds : tie.Need-loop-holds If μf Il μl Ij μj Ic μc
-loop-holds c = (omega arith, c .before .before .before .before .before .before .before .cells .inv .1, scan-zero _)
+loop-holds c =
+    let i = c .before .before .before .before .before .before .before .cells .inv in (
+      search needs,
+      i .1,
+      record {
+        cells = c .before .before .before .before .before .before .before .before .room .ensures;
+        inside = c .before .before .before .before .before .before .cells-test .taken;
+        earlier = i .2;
+        recorded = sym (c .before .before .before .before .before .record-sound .ensures) ∙ not-false _ (c .before .before .before .before .if1 .left);
+        dimension = c .before .before .before .dim .ensures;
+        places-used = c .before .before .used .ensures .0;
+        places-law = c .before .law-places .ensures .0;
+        by-value = c .faces .ensures;
+      },
+      scan-zero _,
+    )
 
 mul-f : tie.Need-mul-f If μf Il μl Ij μj Ic μc
-mul-f c = omega arith
+mul-f c = search needs
 
 array-read-f : tie.Need-array-read-f If μf Il μl Ij μj Ic μc
-array-read-f c = omega arith
+array-read-f c = search needs
 
 cast-f : tie.Need-cast-f If μf Il μl Ij μj Ic μc
 cast-f c = search needs
 
-mul-if3 : tie.Need-mul-if3 If μf Il μl Ij μj Ic μc
-mul-if3 c = omega arith
-
-mul-if3-2 : tie.Need-mul-if3-2 If μf Il μl Ij μj Ic μc
-mul-if3-2 c = omega arith
-
-shared-slice-read-if3 : tie.Need-shared-slice-read-if3 If μf Il μl Ij μj Ic μc
-shared-slice-read-if3 c = omega arith
+dim-requires-2 : tie.Need-dim-requires-2 If μf Il μl Ij μj Ic μc
+dim-requires-2 c κs = search needs
 
 cast-if3 : tie.Need-cast-if3 If μf Il μl Ij μj Ic μc
-cast-if3 c = omega (arith, c .shared-slice-known3 .given (getD (c .before .before .before .before .faces .result) (c .before .before .before .loop .j) 0 * width))
+cast-if3 c = search needs
 
 add-if3 : tie.Need-add-if3 If μf Il μl Ij μj Ic μc
-add-if3 c = omega (arith, c .shared-slice-known3 .given (getD (c .before .before .before .before .faces .result) (c .before .before .before .loop .j) 0 * width))
+add-if3 c = search needs
 
 cast-if3-2 : tie.Need-cast-if3-2 If μf Il μl Ij μj Ic μc
-cast-if3-2 c = omega (arith, c .before .before .before .before .before .before .before .shared-slice-known2 .given (c .before .before .before .before .before .before .before .before .before .before .before .cells .c * width))
+cast-if3-2 c = search needs
 
 add-j : tie.Need-add-j If μf Il μl Ij μj Ic μc
-add-j c = omega arith
+add-j c = search needs
 
 loop-less : tie.Need-loop-less If μf Il μl Ij μj Ic μc
-loop-less c = omega arith
+loop-less c = search needs
 
 loop-again : tie.Need-loop-again If μf Il μl Ij μj Ic μc
-loop-again c = let i = c .before .before .before .before .loop .inv in (omega arith, i .1, face-passes (here (c .before .before .before .before .before)) _ (c .before .before .before .loop-test .taken) (i .2) (c .before .before .if2 .left) (c .if3 .left))
+loop-again c =
+    let i = c .before .before .before .before .loop .inv in
+    (search needs, i .1, i .2, face-passes (i .2) _ _ (c .before .before .before .loop-test .taken) (i .3) (c .before .dim2 .ensures) (c .before .before .if2 .left) (c .if3 .left))
 
 loop2-holds : tie.Need-loop2-holds If μf Il μl Ij μj Ic μc
-loop2-holds c = let i = c .before .loop .inv in (omega arith, i .1, faces-pass (here (c .before .before)) _ (i .0) (c .loop-test .left) (i .2), scan-zero _)
+loop2-holds c =
+    let i = c .before .loop .inv in
+    (search needs, i .1, faces-pass (i .2) _ (i .0) (c .loop-test .left) (i .3), scan-zero _)
 
 mul-f-2 : tie.Need-mul-f-2 If μf Il μl Ij μj Ic μc
-mul-f-2 c = omega arith
+mul-f-2 c = search needs
 
 array-read-f-2 : tie.Need-array-read-f-2 If μf Il μl Ij μj Ic μc
-array-read-f-2 c = omega arith
+array-read-f-2 c = search needs
 
 cast-f-2 : tie.Need-cast-f-2 If μf Il μl Ij μj Ic μc
 cast-f-2 c = search needs
 
 loop3-holds : tie.Need-loop3-holds If μf Il μl Ij μj Ic μc
-loop3-holds c = let i = c .before .loop2 .inv in (omega arith, i .1, faces-inside (here (c .before .before .before .before)) (i .2) _ (c .loop2-test .taken), scan-zero _)
+loop3-holds c = (search needs, c .before .loop2 .inv .1, scan-zero _)
 
 mul-e : tie.Need-mul-e If μf Il μl Ij μj Ic μc
-mul-e c = omega arith
+mul-e c = search needs
 
 array-read-e : tie.Need-array-read-e If μf Il μl Ij μj Ic μc
-array-read-e c = omega arith
+array-read-e c = search needs
 
 cast-e : tie.Need-cast-e If μf Il μl Ij μj Ic μc
 cast-e c = search needs
 
-mul-if4 : tie.Need-mul-if4 If μf Il μl Ij μj Ic μc
-mul-if4 c = let i = c .before .loop3 .inv in omega (arith, i .2 (c .before .before .before .loop2 .j) (omega arith))
+face-requires : tie.Need-face-requires If μf Il μl Ij μj Ic μc
+face-requires c κs = (face-known (c .before .before .before .before .before .loop .inv .2) (c .before .before .before .loop2 .inv .2) _ (c .before .before .loop2-test .taken), search needs)
 
-add-if4 : tie.Need-add-if4 If μf Il μl Ij μj Ic μc
-add-if4 c = omega arith
+sub-face : tie.Need-sub-face If μf Il μl Ij μj Ic μc
+sub-face c = search needs
 
-add-if4-2 : tie.Need-add-if4-2 If μf Il μl Ij μj Ic μc
-add-if4-2 c = let i = c .before .loop3 .inv in omega (arith, i .2 (c .before .before .before .loop2 .j) (omega arith))
-
-mul-if4-2 : tie.Need-mul-if4-2 If μf Il μl Ij μj Ic μc
-mul-if4-2 c = let i = c .before .loop3 .inv in omega (arith, i .2 (c .before .before .before .loop2 .j) (omega arith))
-
-shared-slice-read-if4 : tie.Need-shared-slice-read-if4 If μf Il μl Ij μj Ic μc
-shared-slice-read-if4 c = let i = c .before .before .loop3 .inv in omega (arith, i .2 (c .before .before .before .before .loop2 .j) (omega arith))
-
-mul-if4-3 : tie.Need-mul-if4-3 If μf Il μl Ij μj Ic μc
-mul-if4-3 c = let i = c .before .before .loop3 .inv in omega (arith, i .2 (c .before .before .loop3 .l) (i .0))
-
-add-if4-3 : tie.Need-add-if4-3 If μf Il μl Ij μj Ic μc
-add-if4-3 c = let i = c .before .before .loop3 .inv in omega (arith, i .2 (c .before .before .loop3 .l) (i .0))
-
-mul-if4-4 : tie.Need-mul-if4-4 If μf Il μl Ij μj Ic μc
-mul-if4-4 c = let i = c .before .before .loop3 .inv in omega (arith, i .2 (c .before .before .loop3 .l) (i .0))
-
-shared-slice-read-if4-2 : tie.Need-shared-slice-read-if4-2 If μf Il μl Ij μj Ic μc
-shared-slice-read-if4-2 c = let i = c .before .before .before .loop3 .inv in omega (arith, i .2 (c .before .before .before .loop3 .l) (i .0))
+face-requires-2 : tie.Need-face-requires-2 If μf Il μl Ij μj Ic μc
+face-requires-2 c κs =
+    let known = face-known (c .before .before .before .before .before .before .loop .inv .2) (c .before .before .before .before .loop2 .inv .2) in
+    (omega (arith, known _ (c .before .before .before .loop2-test .taken), known (c .before .before .loop3 .l) (omega arith)), search needs)
 
 add-l : tie.Need-add-l If μf Il μl Ij μj Ic μc
-add-l c = omega arith
+add-l c = search needs
 
 loop3-less : tie.Need-loop3-less If μf Il μl Ij μj Ic μc
-loop3-less c = omega arith
+loop3-less c = search needs
 
 loop3-again : tie.Need-loop3-again If μf Il μl Ij μj Ic μc
-loop3-again c = let i = c .before .before .before .before .loop3 .inv in (omega arith, i .1, i .2, pair-passes (here (c .before .before .before .before .before .before .before .before .before)) _ _ (c .before .before .before .before .before .loop2-test .taken) (c .before .before .before .loop3-test .taken) (i .3) (c .if4 .left))
+loop3-again c =
+    let i = c .before .before .before .before .loop3 .inv in
+    (search needs, i .1, pair-passes (c .before .before .before .before .before .before .before .before .loop .inv .2) (c .before .before .before .before .before .before .loop2 .inv .2) _ _ _ _ (c .before .before .before .before .before .loop2-test .taken) (c .before .before .before .loop3-test .taken) (i .2) (c .before .before .face .ensures) (c .before .face2 .ensures) (c .if4 .left))
 
 add-j-2 : tie.Need-add-j-2 If μf Il μl Ij μj Ic μc
-add-j-2 c = omega arith
+add-j-2 c = search needs
 
 loop2-less : tie.Need-loop2-less If μf Il μl Ij μj Ic μc
-loop2-less c = omega arith
+loop2-less c = search needs
 
 loop2-again : tie.Need-loop2-again If μf Il μl Ij μj Ic μc
-loop2-again c = let i = c .before .loop3 .inv in let k = c .before .before .before .loop2 .inv in (omega arith, i .1, k .2, place-passes (here (c .before .before .before .before .before .before)) _ _ (i .0) (c .loop3-test .left) (i .3) (k .3))
+loop2-again c =
+    let i = c .before .loop3 .inv in
+    let k = c .before .before .before .loop2 .inv in
+    (search needs, i .1, k .2, place-passes _ _ _ _ (i .0) (c .loop3-test .left) (i .2) (k .3))
 
 add-c : tie.Need-add-c If μf Il μl Ij μj Ic μc
-add-c c = omega arith
+add-c c = search needs
 
 cells-less : tie.Need-cells-less If μf Il μl Ij μj Ic μc
-cells-less c = omega arith
+cells-less c = search needs
 
 cells-again : tie.Need-cells-again If μf Il μl Ij μj Ic μc
-cells-again c = let i = c .before .loop2 .inv in (omega arith, i .1, cell-passes (here (c .before .before .before .before)) _ (i .0) (c .loop2-test .left) (i .2) (i .3))
+cells-again c =
+    let i = c .before .loop2 .inv in
+    (search needs, i .1, cell-passes (c .before .before .before .loop .inv .2) (i .2) _ (i .0) (c .loop2-test .left) (i .3))
 
 returns : tie.Need-returns If μf Il μl Ij μj Ic μc
-returns c = let i = c .before .cells .inv in i .1 ∙ none-found (c .before .before .before .args .t .now) _ _ refl (i .0) (c .cells-test .left) (i .2)
+returns c =
+    let i = c .before .cells .inv in
+    i .1 ∙ none-found _ _ _ (c .before .before .room .ensures) (i .0) (c .cells-test .left) (i .2)
 
 returns-2 : tie.Need-returns-2 If μf Il μl Ij μj Ic μc
-returns-2 c = stops-at-record (c .before .before .before .before .before .args .t .now) _ _ refl (c .before .before .cells-test .taken) (c .before .before .before .cells .inv .2) (sym (c .before .record-sound .ensures) ∙ not-true _ (c .if1 .taken))
+returns-2 c =
+    stops-at-record _ _ _ (c .before .before .before .before .room .ensures) (c .before .before .cells-test .taken) (c .before .before .before .cells .inv .2)
+    (sym (c .before .record-sound .ensures) ∙ not-true _ (c .if1 .taken))
 
 returns-3 : tie.Need-returns-3 If μf Il μl Ij μj Ic μc
-returns-3 c = stops-outside (here (c .before .before .before)) _ (c .before .loop-test .taken) (c .before .before .loop .inv .2) (c .if2 .taken)
+returns-3 c =
+    let i = c .before .before .loop .inv in
+    stops-outside (i .2) _ (c .before .loop-test .taken) (i .3) (c .if2 .taken)
 
 returns-4 : tie.Need-returns-4 If μf Il μl Ij μj Ic μc
-returns-4 c = stops-at-dim (here (c .before .before .before .before .before)) _ (c .before .before .before .loop-test .taken) (c .before .before .before .before .loop .inv .2) (c .if3 .taken)
+returns-4 c =
+    let i = c .before .before .before .before .loop .inv in
+    stops-at-dim (i .2) _ _ (c .before .before .before .loop-test .taken) (i .3) (c .before .dim2 .ensures) (c .if3 .taken)
 
 returns-5 : tie.Need-returns-5 If μf Il μl Ij μj Ic μc
-returns-5 c = let k = c .before .before .before .before .before .before .loop2 .inv in stops-at-law (here (c .before .before .before .before .before .before .before .before .before)) _ _ (c .before .before .before .before .before .loop2-test .taken) (c .before .before .before .loop3-test .taken) (k .2) (k .3) (c .before .before .before .before .loop3 .inv .3) (c .if4 .taken)
+returns-5 c =
+    let k = c .before .before .before .before .before .before .loop2 .inv in
+    stops-at-law (c .before .before .before .before .before .before .before .before .loop .inv .2) (k .2) _ _ _ _ (c .before .before .before .before .before .loop2-test .taken) (c .before .before .before .loop3-test .taken) (c .before .before .before .before .loop3 .inv .2) (c .before .before .face .ensures) (c .before .face2 .ensures) (k .3) (c .if4 .taken)
 
 pub first-breach-spec : {M : Type 1} → statement M
 first-breach-spec =
@@ -227,11 +220,10 @@ first-breach-spec =
     μj
     Ic
     μc
+    room-requires
     cells-holds
     record-sound-requires
-    mul-p
-    mul-p-2
-    shared-slice-read-p
+    dim-requires
     used-requires
     law-places-requires
     faces-requires
@@ -239,9 +231,7 @@ first-breach-spec =
     mul-f
     array-read-f
     cast-f
-    mul-if3
-    mul-if3-2
-    shared-slice-read-if3
+    dim-requires-2
     cast-if3
     add-if3
     cast-if3-2
@@ -256,15 +246,9 @@ first-breach-spec =
     mul-e
     array-read-e
     cast-e
-    mul-if4
-    add-if4
-    add-if4-2
-    mul-if4-2
-    shared-slice-read-if4
-    mul-if4-3
-    add-if4-3
-    mul-if4-4
-    shared-slice-read-if4-2
+    face-requires
+    sub-face
+    face-requires-2
     add-l
     loop3-less
     loop3-again
