@@ -18,6 +18,7 @@ use Rattle.counting.proofs.Tallies.{Tally, tally-counted, tally-skipped}
 use Rattle.homology.specs.Evidence.{cellsIn, boundingIn}
 use Rattle.homology.proofs.Marks.{by-mark, &&-off}
 use Rattle.homology.proofs.Chains.{boundary-member}
+use Rattle.table.specs.Kind.{top}
 use Rattle.table.specs.Table.{cellsOf, dim, Live, isCell, Valid}
 use Rattle.table.specs.Words.{listed}
 use Rattle.table.proofs.Words.{length-listed, getD-listed}
