@@ -3,12 +3,13 @@
 use mathlib.Core.Path.{_≡_, ap, _∙_}
 use mathlib.Core.List.{List, _++_, append-nil}
 use mathlib.Core.Logic.{inr}
-use Prim.Native.Nat.{ℕ, _+_, _*_, _≤_, _<_}
+use Prim.Native.Nat.{ℕ, _*_, _≤_, _<_}
 use native.Mathlib.Omega.{arith}
 use lib.Seq.{drop-length}
-use lib.ListN.{length, drop, replicate, length-replicate, getD-replicate}
-use Rattle.table.specs.Kind.{capacity, faces, width, freeMark}
-use Rattle.table.specs.Table.{cellsOf, dim, face, Sized, Live, Valid}
+use lib.ListN.{length, drop, replicate, length-replicate}
+use Rattle.table.specs.Kind.{capacity, width, freeMark}
+use Rattle.table.specs.Table.{cellsOf, Sized, Live, Valid}
+use Rattle.table.proofs.Words.{same-dim, same-face}
 use Rattle.audit.specs.Empty.{emptied}
 
 -- n records of free marks
@@ -19,21 +20,15 @@ module _ (n : ℕ) where
   long : length filled ≡ n * width
   long = length-replicate (n * width) freeMark
 
-  free-dim : (c : ℕ) → c < cellsOf filled → dim filled c ≡ freeMark
-  free-dim c h = getD-replicate (n * width) (c * width) freeMark 0 (omega (arith, long))
-
-  free-face : (c j : ℕ) → c < cellsOf filled → j < faces → face filled c j ≡ freeMark
-  free-face c j h l = getD-replicate (n * width) (c * width + (1 + j)) freeMark 0 (omega (arith, long))
-
-  none-live : (c : ℕ) → Live filled c → ⊥
-  none-live c v = omega (arith, free-dim c (v .inside), v .low)
+  pub none-live : (c : ℕ) → Live filled c → ⊥
+  none-live c v = omega (arith, same-dim (n * width) freeMark c (v .inside), v .low)
 
   pub empty-is-valid : 1 ≤ n → n ≤ capacity → Valid (replicate (n * width) freeMark)
   empty-is-valid h m =
       record {
         sized = record { whole = omega (arith, long); some = omega (arith, long); room = omega (arith, long) };
-        records = λ c h. inr (free-dim c h);
-        unused = λ c j h u l. free-face c j h l;
+        records = λ c h. inr (same-dim (n * width) freeMark c h);
+        unused = λ c j h u l. same-face (n * width) freeMark c j h l;
         face-live = λ c j v h. absurd (none-live c v);
         face-dim = λ c j v h. absurd (none-live c v);
         law = λ c j l v h k m. absurd (none-live c v);

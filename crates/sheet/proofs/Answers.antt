@@ -4,11 +4,12 @@ use mathlib.Core.Path.{_≡_, refl, sym, ap, _∙_}
 use mathlib.Core.Bool.{Bool, true, false}
 use mathlib.Core.List.{List}
 use mathlib.Core.Logic.{_↔_}
-use Prim.Native.Nat.{ℕ, _*_}
+use Prim.Native.Nat.{ℕ}
 use native.Mathlib.Omega.{arith}
-use lib.ListN.{length, getD, replicate, length-replicate, getD-replicate}
+use lib.ListN.{length}
 use Rattle.counting.specs.Counting.{pick}
-use Rattle.table.specs.Kind.{width, freeMark}
+use Rattle.table.specs.Kind.{freeMark}
+use Rattle.table.proofs.Words.{same-dim}
 use Rattle.table.specs.Table.{dim, Sized, Live, Valid}
 use Rattle.table.specs.Audit.{auditGrounds}
 use Rattle.table.specs.Calls.{verdict, onVerdict}
@@ -45,15 +46,9 @@ says-yes-iff t = (
 )
 
 -- an empty table says no
-none-live : (m c : ℕ) → Live (replicate m freeMark) c → ⊥
-none-live m c v =
-    let l : length (replicate m freeMark) ≡ m = length-replicate {A = ℕ} m freeMark in
-    let d : getD (replicate m freeMark) (c * width) 0 ≡ freeMark = getD-replicate {A = ℕ} m (c * width) freeMark 0 (omega (arith, v .inside)) in
-    omega (arith, v .low)
-
 emptied-bare : (t : List ℕ) (c : ℕ) → Live (emptied t) c → ⊥
 unfolding emptied
-emptied-bare t c v = none-live (length t) c v
+emptied-bare t c v = omega (arith, same-dim (length t) freeMark c (v .inside), v .low)
 
 pub empty-says-no : (t : List ℕ) → Sized t → sheetAnswer (emptied t) ≡ No
 empty-says-no t s =

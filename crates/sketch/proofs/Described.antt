@@ -11,8 +11,7 @@ use lib.ListN.{length, getD, List·getD-eq-default}
 use lib.Dec.{eqb, ltb}
 use Rattle.table.specs.Kind.{width, faces, freeMark, used}
 use Rattle.table.specs.Table.{cellsOf, dim, face, Sized}
-use Rattle.table.specs.Words.{wordOf, tableOf}
-use Rattle.table.proofs.Words.{length-tableOf, cellsOf-tableOf, dim-tableOf, face-tableOf, getD-listed}
+use Rattle.table.proofs.Words.{length-tableOf, cellsOf-tableOf, dim-tableOf, face-tableOf, each-word}
 use Rattle.counting.specs.Counting.{howMany, nth, someHas, pick}
 use Rattle.counting.proofs.Cases.{below-or-not}
 use Rattle.counting.proofs.Counting.{nth-below, nth-none}
@@ -95,11 +94,6 @@ module _ (n : ℕ) (f : List ℕ) (bytes : (k : ℕ) → getD f k 0 < 256) where
   pick-small true x y h l = h
   pick-small false x y h l = l
 
-  word-small : (d : ℕ → ℕ) (g : ℕ → ℕ → ℕ) → ((c : ℕ) → d c < 65536) → ((c j : ℕ) → g c j < 65536) → (i : ℕ) → wordOf d g i < 65536
-  unfolding wordOf
-  word-small d g h l i =
-      pick-small (eqb (i % width) 0) (d (i / width)) (g (i / width) (i % width - 1)) (h (i / width)) (l (i / width) (i % width - 1))
-
   face-of-small : (c j : ℕ) → faceOf n f c j < 65536
   face-of-small c j =
       pick-small (ltb j (used (dimIn f c))) (faceIn f (dimIn f c) (placeIn f (dimIn f c) c) j) freeMark
@@ -107,13 +101,14 @@ module _ (n : ℕ) (f : List ℕ) (bytes : (k : ℕ) → getD f k 0 < 256) where
       (omega arith)
 
   pub described-words-small : (i : ℕ) → getD (described n f) i 0 < 65536
-  unfolding described tableOf
   described-words-small i = ⊎-elim inside past (below-or-not i (n * width))
     where
       inside : i < n * width → getD (described n f) i 0 < 65536
       inside l =
-          rw (getD-listed (n * width) (wordOf (dimIn f) (faceOf n f)) i l)
-          (word-small (dimIn f) (faceOf n f) dim-small face-of-small i)
+          each-word (λ w. w < 65536) (described n f) n (described-length n f)
+          (λ c h. rw (described-dim n f c h) (dim-small c))
+          (λ c j h m. rw (described-face n f c j h m) (face-of-small c j))
+          i (omega (arith, described-length n f))
 
       past : n * width ≤ i → getD (described n f) i 0 < 65536
       past l =

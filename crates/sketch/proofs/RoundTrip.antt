@@ -1,16 +1,17 @@
 -- The way there and back: a valid table, written and read, is the same table; an accepted file, read and written, is the same
 -- bytes; and the reader accepts exactly the files that valid tables are written as.
 -- What carries it: the files There and Back. Assumes nothing.
-use mathlib.Core.Path.{_≡_, refl, ap, ap₂, sym, subst, _∙_}
+use mathlib.Core.Path.{_≡_, ap, ap₂, sym, subst, _∙_}
 use mathlib.Core.Bool.{true}
 use mathlib.Core.List.{List}
 use mathlib.Core.Logic.{⊎-elim, _↔_}
-use Prim.Native.Nat.{ℕ, zero, suc, _+_, _*_, _/_, _%_, _≤_, _<_}
+use Prim.Native.Nat.{ℕ, _*_, _≤_, _<_}
 use native.Mathlib.Omega.{arith}
 use lib.ListN.{length, getD, replicate, List·getD-eq-default}
 use lib.Dec.{eqb}
 use Rattle.counting.specs.Counting.{pick}
 use Rattle.table.specs.Kind.{width, faces, freeMark, used}
+use Rattle.table.proofs.Words.{each-word}
 use Rattle.table.specs.Table.{cellsOf, dim, face, Sized, Valid}
 use Rattle.table.specs.Audit.{sound}
 use Rattle.table.specs.Calls.{onVerdict}
@@ -90,16 +91,9 @@ module _ (t : List ℕ) (v : Valid t) where
       (λ l. omega (arith, v .unused c j h l m))
       (below-or-not j (used (dim t c)))
 
-  word-at : (i : ℕ) → i < length t → (k : ℕ) → i % width ≡ k → getD t i 0 < 65536
-  word-at i h zero e =
-      let c : i ≡ i / width * width = omega arith in
-      subst (λ x. getD t x 0 < 65536) (sym c) (dim-small (i / width) (omega (arith, v .sized .whole)))
-  word-at i h (suc k) e =
-      let c : i ≡ i / width * width + (1 + k) = omega arith in
-      subst (λ x. getD t x 0 < 65536) (sym c) (face-small (i / width) k (omega (arith, v .sized .whole)) (omega arith))
-
   pub valid-words-small : (i : ℕ) → getD t i 0 < 65536
-  valid-words-small i = ⊎-elim (λ h. word-at i h (i % width) refl) past (below-or-not i (length t))
+  valid-words-small i =
+      ⊎-elim (each-word (λ w. w < 65536) t (cellsOf t) (v .sized .whole) dim-small face-small i) past (below-or-not i (length t))
     where
       past : length t ≤ i → getD t i 0 < 65536
       past l = rw (List·getD-eq-default t 0 l) (omega arith)

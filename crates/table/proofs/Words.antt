@@ -1,13 +1,13 @@
 -- Laws of a table that is written down record by record: its size, its dimensions and its faces are those it was given, and a
 -- table is determined by them. Assumes nothing.
-use mathlib.Core.Path.{_≡_, refl, ap, ap₂, sym, _∙_}
+use mathlib.Core.Path.{_≡_, refl, ap, ap₂, sym, subst, _∙_}
 use mathlib.Core.Bool.{Bool, true, false}
 use mathlib.Core.List.{List, [], _∷_}
 use Prim.Native.Nat.{ℕ, zero, suc, _+_, _-_, _*_, _/_, _%_, _≤_, _<_}
 use native.Mathlib.Nat.{le-of-suc-le-suc, not-suc-le-zero}
 use native.Mathlib.Omega.{arith}
 use borrow.Author.Tests.{eq-eqb, ne-eqb}
-use lib.ListN.{length, getD}
+use lib.ListN.{length, getD, replicate, length-replicate, getD-replicate}
 use lib.Seq.{ext-getD}
 use lib.Dec.{eqb}
 use Rattle.counting.specs.Counting.{pick}
@@ -58,17 +58,35 @@ unfolding tableOf
 face-tableOf n d f c j h hj =
     getD-listed (n * width) (wordOf d f) (c * width + (1 + j)) (omega arith) ∙ later-word d f c j hj
 
+-- what holds at every first word and at every face word of n records holds at every word
+at-words :
+    (P : ℕ → Type 0) (n : ℕ) → ((c : ℕ) → c < n → P (c * width)) → ((c j : ℕ) → c < n → j < faces → P (c * width + (1 + j))) →
+    (i : ℕ) → i < n * width → P i
+at-words P n first later i h = go (i % width) refl
+  where
+    go : (k : ℕ) → i % width ≡ k → P i
+    go zero e =
+        let w : i ≡ i / width * width = omega arith in
+        subst P (sym w) (first (i / width) (omega arith))
+    go (suc k) e =
+        let w : i ≡ i / width * width + (1 + k) = omega arith in
+        subst P (sym w) (later (i / width) k (omega arith) (omega arith))
+
+-- each word of a table is a dimension or a face
+pub each-word :
+    (P : ℕ → Type 0) (t : List ℕ) (n : ℕ) → length t ≡ n * width → ((c : ℕ) → c < n → P (dim t c)) →
+    ((c j : ℕ) → c < n → j < faces → P (face t c j)) → (i : ℕ) → i < length t → P (getD t i 0)
+each-word P t n e dims sides i h = at-words (λ k. P (getD t k 0)) n dims sides i (omega arith)
+
 -- two tables of n cells with the same dimensions and faces are the same words
 pub table-by-records : (t u : List ℕ) (n : ℕ) → length t ≡ n * width → length u ≡ n * width → ((c : ℕ) → c < n → dim t c ≡ dim u c) → ((c j : ℕ) → c < n → j < faces → face t c j ≡ face u c j) → t ≡ u
-table-by-records t u n ht hu hd hf = ext-getD 0 t u (ht ∙ sym hu) at
-  where
-    go : (i : ℕ) → i < length t → (k : ℕ) → i % width ≡ k → getD t i 0 ≡ getD u i 0
-    go i h zero e =
-        let c : i ≡ i / width * width = omega arith in
-        rw (c) (hd (i / width) (omega arith))
-    go i h (suc k) e =
-        let c : i ≡ i / width * width + (1 + k) = omega arith in
-        rw (c) (hf (i / width) k (omega arith) (omega arith))
+table-by-records t u n ht hu hd hf =
+    ext-getD 0 t u (ht ∙ sym hu) (λ i h. at-words (λ k. getD t k 0 ≡ getD u k 0) n hd hf i (omega arith))
 
-    at : (i : ℕ) → i < length t → getD t i 0 ≡ getD u i 0
-    at i h = go i h (i % width) refl
+-- where all words are the same, every dimension and every face is that word
+module _ (m x : ℕ) where
+  pub same-dim : (c : ℕ) → c < cellsOf (replicate m x) → dim (replicate m x) c ≡ x
+  same-dim c h = getD-replicate m (c * width) x 0 (omega (arith, length-replicate {A = ℕ} m x))
+
+  pub same-face : (c j : ℕ) → c < cellsOf (replicate m x) → j < faces → face (replicate m x) c j ≡ x
+  same-face c j h l = getD-replicate m (c * width + (1 + j)) x 0 (omega (arith, length-replicate {A = ℕ} m x))
