@@ -23,7 +23,7 @@ use Rattle.table.specs.Table.{cellsOf, dim, Live, isCell, Valid}
 use Rattle.table.specs.Words.{listed}
 use Rattle.table.proofs.Words.{length-listed, getD-listed}
 use Rattle.complex.specs.Cells.{cells}
-use Rattle.table.proofs.Dimensions.{own-dimension, other-dimension}
+use Rattle.table.proofs.Dimensions.{cell-says, other-dimension}
 use Rattle.complex.proofs.Boundary.{valid-is-lawful}
 use Rattle.rows.specs.Rows.{evidenceWords, rows}
 use Rattle.checker.specs.Check.{keepsA, rowBoundary, rowTop}
@@ -60,7 +60,7 @@ module _ (t ev : List ℕ) (v : Valid t) (long : length ev ≡ evidenceWords t) 
   pub row-counted : (n m p : ℕ) (xs : List ℕ) → keepsA t ev c ≡ true → rowTop t ev c ≡ suc m → p ≡ dim t c → p < n → Tally n (isBoundingAt t ev) c xs → Tally n (isBoundingAt t ev) (c + 1) (set xs p (getD xs p 0 + 1))
   row-counted n m p xs a e g l k =
       tally-counted k p l
-      (and-both _ _ (own-dimension t c p (bounding-live m a e) (sym g)) (any-on-top (rowBoundary t ev c) (cellsOf t) m e))
+      (and-both _ _ (cell-says t p c (bounding-live m a e) (sym g)) (any-on-top (rowBoundary t ev c) (cellsOf t) m e))
       (λ q ne. ap (λ (b : Bool). b && someHas (rowBoundary t ev c) (cellsOf t)) (other-dimension t c q (λ z. ne (sym (g ∙ z)))))
 
 pub row-skipped : (t ev : List ℕ) (c n : ℕ) (xs : List ℕ) → rowTop t ev c ≡ 0 → Tally n (isBoundingAt t ev) c xs → Tally n (isBoundingAt t ev) (c + 1) xs

@@ -18,7 +18,7 @@ use Rattle.reading.specs.Incidence.{incidenceOf}
 use Rattle.reading.specs.Boundary.{boundaryOf, one, cellBoundary, publishedBoundary}
 use Rattle.reading.proofs.Integers.{one-times}
 use Rattle.reading.proofs.SumLaws.{sum-none, sum-same, sum-zero}
-use Rattle.reading.proofs.Living.{CellOf, cell-true, cell-says, face-cell}
+use Rattle.reading.proofs.Living.{CellOf, cell-true, cell-is, face-cell}
 
 pub pick-times : (b : Bool) (a z : ℤ) → pick b (a *ℤ z) (pos 0) ≡ a *ℤ pick b z (pos 0)
 pick-times true a z = refl
@@ -62,7 +62,7 @@ module _ (t : List ℕ) (v : Valid t) where
   bounds-cells p c u h e =
       sum-zero (used (dim t c)) (λ i. sign i *ℤ one (face t c i) u) (λ i l.
       ⊎-elim
-      (λ q. absurd (false≢true (sym e ∙ ap (isCell t p) (sym q) ∙ cell-says t p (face t c i) (face-cell t v p c i h l))))
+      (λ q. absurd (false≢true (sym e ∙ ap (isCell t p) (sym q) ∙ cell-is t p (face t c i) (face-cell t v p c i h l))))
       (λ q. ap (λ (z : ℤ). sign i *ℤ z) (one-elsewhere (face t c i) u q) ∙ *ℤ-zero (sign i))
       (same-or-not (face t c i) u))
 

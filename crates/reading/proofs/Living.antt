@@ -7,12 +7,9 @@ use Prim.Native.Nat.{ℕ, suc, _≤_, _<_}
 use native.Mathlib.Nat.{suc-inj}
 use native.Mathlib.Numerals.{add-one}
 use native.Mathlib.Omega.{arith}
-use borrow.Author.Tests.{eq-eqb, eqb-true}
-use lib.Dec.{eqb}
-use Rattle.counting.proofs.Cases.{and-both, and-left, and-right}
 use Rattle.table.specs.Kind.{top, used}
-use Rattle.table.specs.Table.{dim, face, live, Live, Valid, isCell}
-use Rattle.table.proofs.Records.{live-says, live-true}
+use Rattle.table.specs.Table.{dim, face, Live, Valid, isCell}
+use Rattle.table.proofs.Dimensions.{cell-live, cell-dim, cell-says}
 use Rattle.audit.proofs.Places.{used-is}
 
 -- a live p-cell, in words of the table
@@ -21,17 +18,10 @@ pub record CellOf (t : List ℕ) (p c : ℕ) : Type 0 where
   pub level : dim t c ≡ p
 
 pub cell-true : (t : List ℕ) (p c : ℕ) → isCell t p c ≡ true → CellOf t p c
-unfolding isCell
-cell-true t p c e =
-    record {
-      alive = live-true t c (and-left (live t c) (eqb (dim t c) p) e);
-      level = eqb-true (dim t c) p (and-right (live t c) (eqb (dim t c) p) e);
-    }
+cell-true t p c e = record { alive = cell-live t p c e; level = cell-dim t p c e }
 
-pub cell-says : (t : List ℕ) (p c : ℕ) → CellOf t p c → isCell t p c ≡ true
-unfolding isCell
-cell-says t p c h =
-    and-both (live t c) (eqb (dim t c) p) (live-says t c (h .alive)) (eq-eqb (dim t c) p (h .level))
+pub cell-is : (t : List ℕ) (p c : ℕ) → CellOf t p c → isCell t p c ≡ true
+cell-is t p c h = cell-says t p c (h .alive) (h .level)
 
 -- a dimension from 1 to the top has one place more than its number
 pub places : (p : ℕ) → suc p ≤ top → used (suc p) ≡ suc (suc p)

@@ -18,7 +18,7 @@ use Rattle.table.specs.Audit.{all}
 use Rattle.reading.specs.Boundary.{limit, coefficient}
 use Rattle.reading.specs.Steps.{allSmall, allPlaced}
 use Rattle.reading.proofs.Lists.{all-fails}
-use Rattle.reading.proofs.Living.{cell-true, cell-says}
+use Rattle.reading.proofs.Living.{cell-true, cell-is}
 use Rattle.reading.proofs.Registers.{back, back-is}
 
 abbrev pub smallAt : List ℤ → ℕ → Bool
@@ -54,7 +54,7 @@ module _ (t : List ℕ) (x : List ℤ) (p c : ℕ) where
 
   pub cell-placed : (coefficient x c ≡ pos 0 → ⊥) → c < cellsOf t → p ≤ top → dim t c ≡ p → placedAt t x p c ≡ true
   cell-placed h l k e =
-      placed-by h true (cell-says t p c (record { alive = record { inside = l; low = omega (arith, e) }; level = e }))
+      placed-by h true (cell-is t p c (record { alive = record { inside = l; low = omega (arith, e) }; level = e }))
 
   pub other-misplaced : (coefficient x c ≡ pos 0 → ⊥) → (dim t c ≡ p → ⊥) → placedAt t x p c ≡ false
   other-misplaced h k =

@@ -18,7 +18,7 @@ use Rattle.reading.specs.Boundary.{boundaryOf, one, cellBoundary, publis
 use Rattle.reading.proofs.Integers.{one-times, times-regroup}
 use Rattle.reading.proofs.SumLaws.{sum-none, sum-same, sum-zero, times-sum, sum-times, sum-exchange, sum-at}
 use Rattle.reading.proofs.Cancelling.{signs-cancel}
-use Rattle.reading.proofs.Living.{CellOf, cell-true, cell-says, places, face-cell}
+use Rattle.reading.proofs.Living.{CellOf, cell-true, cell-is, places, face-cell}
 use Rattle.reading.proofs.BoundaryLaws.{pick-times, boundary-is-published}
 
 -- what cell c adds at u as a p-cell: its boundary there, and 0 where it is none
@@ -31,7 +31,7 @@ adds-none t p c u e = rw e
 
 adds-bound : (t : List ℕ) (p c u : ℕ) → CellOf t p c → adds t p c u ≡ sumTo (used p) (λ i. sign i *ℤ one (face t c i) u)
 unfolding adds cellBoundary
-adds-bound t p c u h = rw (cell-says t p c h, h .level)
+adds-bound t p c u h = rw (cell-is t p c h, h .level)
 
 published-is : (t : List ℕ) (p : ℕ) (x : ℕ → ℤ) (u : ℕ) → publishedBoundary t p x u ≡ sumTo (cellsOf t) (λ c. x c *ℤ adds t p c u)
 unfolding publishedBoundary adds

@@ -14,7 +14,8 @@ use Rattle.sketch.specs.Written.{countOf, fileOf}
 use Rattle.sketch.specs.Read.{countIn, numberIn, faceIn, described}
 use Rattle.sketch.proofs.Parts.{layout-cong}
 use Rattle.sketch.proofs.Laid.{laid-layout}
-use Rattle.sketch.proofs.Cells.{cellAt, faceAt, cell-dim, cell-says, file-is}
+use Rattle.table.proofs.Dimensions.{cell-dim, cell-says}
+use Rattle.sketch.proofs.Cells.{cellAt, faceAt, file-is}
 use Rattle.sketch.proofs.Fits.{Fits, Numbered}
 use Rattle.sketch.proofs.Rising.{rising-nth, rising-count}
 use Rattle.sketch.proofs.Readings.{fits-laid}

@@ -4,12 +4,10 @@ use mathlib.Core.Path.{_≡_, ap, _∙_}
 use mathlib.Core.Bool.{true}
 use mathlib.Core.List.{List, _++_}
 use Prim.Native.Nat.{ℕ, _<_}
-use borrow.Author.Tests.{eq-eqb, eqb-true}
-use Rattle.counting.proofs.Cases.{and-both, and-left, and-right}
-use Rattle.table.specs.Table.{cellsOf, dim, face, Live, live, isCell}
+use Rattle.table.specs.Table.{cellsOf, dim, face, isCell}
 use Rattle.counting.specs.Counting.{nth}
 use Rattle.counting.proofs.Counting.{nth-has}
-use Rattle.table.proofs.Records.{live-says, live-true}
+use Rattle.table.proofs.Dimensions.{cell-dim}
 use Rattle.sketch.specs.Form.{dimensions}
 use Rattle.sketch.specs.Written.{countOf, cellBytes, bodyOf, contentsOf, fileOf}
 use Rattle.sketch.proofs.Pieces.{pieces-cong}
@@ -17,19 +15,6 @@ use Rattle.sketch.proofs.Picked.{pieces-picked}
 use Rattle.sketch.proofs.Parts.{recordBytes, bodyBytes, bodiesBytes, contentsBytes, layout}
 
 module _ (t : List ℕ) where
-  -- a live p-cell is a live cell of dimension p
-  pub cell-live : (p c : ℕ) → isCell t p c ≡ true → Live t c
-  unfolding isCell
-  cell-live p c e = live-true t c (and-left (live t c) _ e)
-
-  pub cell-dim : (p c : ℕ) → isCell t p c ≡ true → dim t c ≡ p
-  unfolding isCell
-  cell-dim p c e = eqb-true (dim t c) p (and-right (live t c) _ e)
-
-  pub cell-says : (p c : ℕ) → Live t c → dim t c ≡ p → isCell t p c ≡ true
-  unfolding isCell
-  cell-says p c v e = and-both (live t c) _ (live-says t c v) (eq-eqb (dim t c) p e)
-
   -- the i-th cell of dimension p, and its face j
   abbrev pub cellAt : ℕ → ℕ → ℕ
   cellAt p i = nth (isCell t p) (cellsOf t) i
@@ -50,7 +35,7 @@ module _ (t : List ℕ) where
   body-is p =
       pieces-picked (isCell t p) (cellBytes t) (cellsOf t)
       ∙ pieces-cong (λ i. cellBytes t (cellAt p i)) (λ i. recordBytes p (cellAt p i) (faceAt p i)) (countOf t p)
-      (λ i l. record-is p (cellAt p i) (cell-dim p (cellAt p i) (cellAt-is p i l)))
+      (λ i l. record-is p (cellAt p i) (cell-dim t p (cellAt p i) (cellAt-is p i l)))
 
   pub file-is : fileOf t ≡ layout (cellsOf t) (countOf t) cellAt faceAt
   unfolding fileOf contentsOf

@@ -18,7 +18,8 @@ use Rattle.sketch.specs.Form.{total, dimensions, contentsSize, recordSiz
 use Rattle.sketch.specs.Written.{countOf, cellBytes, bodyOf, contentsOf, fileOf}
 use Rattle.sketch.proofs.Pieces.{total-zero, total-suc, total-more, total-grows, total-less, total-scaled}
 use Rattle.sketch.proofs.Parts.{length-recordBytes, length-bodyBytes, length-contentsBytes, length-layout}
-use Rattle.sketch.proofs.Cells.{cellAt, faceAt, cell-dim, record-is, body-is, file-is}
+use Rattle.table.proofs.Dimensions.{cell-dim}
+use Rattle.sketch.proofs.Cells.{cellAt, faceAt, record-is, body-is, file-is}
 
 -- the most bytes that a file has
 abbrev pub longest : ℕ

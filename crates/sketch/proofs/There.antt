@@ -18,7 +18,8 @@ use Rattle.sketch.specs.Written.{countOf, fileOf}
 use Rattle.sketch.specs.Read.{countIn, numberIn, faceIn, inBody, dimIn, described}
 use Rattle.sketch.proofs.Parts.{Laid}
 use Rattle.sketch.proofs.Laid.{layout-laid}
-use Rattle.sketch.proofs.Cells.{cellAt, faceAt, cellAt-is, cell-live, cell-dim, cell-says, file-is}
+use Rattle.table.proofs.Dimensions.{cell-live, cell-dim, cell-says}
+use Rattle.sketch.proofs.Cells.{cellAt, faceAt, cellAt-is, file-is}
 use Rattle.sketch.proofs.Sizes.{start-fits}
 use Rattle.sketch.proofs.Fits.{Fits, Numbered}
 use Rattle.sketch.proofs.Readings.{Small, reads-count, reads-number, reads-face, reads-fits}

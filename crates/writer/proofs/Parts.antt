@@ -9,11 +9,10 @@ use lib.ListN.{length, length-append}
 use Rattle.counting.specs.Counting.{pick}
 use Rattle.table.specs.Kind.{top, used}
 use Rattle.table.specs.Table.{cellsOf, dim, face, isCell}
-use Rattle.table.proofs.Dimensions.{other-dimension}
+use Rattle.table.proofs.Dimensions.{other-dimension, cell-says}
 use Rattle.sketch.specs.Form.{two, four, pieces, dimensions, bodyStart}
 use Rattle.sketch.specs.Written.{countOf, cellBytes, bodyOf, contentsOf, fileOf}
 use Rattle.sketch.proofs.Bytes.{length-two, length-four}
-use Rattle.sketch.proofs.Cells.{cell-says}
 use Rattle.writer.specs.Put.{Put, entry}
 use Rattle.writer.proofs.Pasting.{put-none, put-as, put-piece, next-fits}
 
