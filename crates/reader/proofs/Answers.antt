@@ -1,32 +1,48 @@
 -- What the reader answers and leaves, way by way out of the code.
--- What carries it: each test decides its own ground, in the order of the four. Assumes nothing.
-use mathlib.Core.Path.{_≡_, refl, ap, sym, subst, _∙_}
+-- What carries it: each test decides its own ground, in the order of the four; only the length's has the number 1. Assumes nothing.
+use mathlib.Core.Path.{_≡_, refl, ap, sym, _∙_}
 use mathlib.Core.Bool.{Bool, true, false, not}
-use mathlib.Core.List.{List}
-use mathlib.Core.Logic.{⊎-elim}
-use Prim.Native.Nat.{ℕ, _*_, _/_, _%_}
+use mathlib.Core.List.{List, [], _∷_}
+use Prim.Native.Nat.{ℕ, _*_, _/_, _%_, _≤_}
 use native.Mathlib.Omega.{arith}
-use borrow.Author.Tests.{not-false}
 use lib.ListN.{length, replicate}
 use lib.Dec.{eqb, leb}
 use Rattle.counting.specs.Counting.{pick}
 use Rattle.table.specs.Kind.{capacity, width, freeMark}
 use Rattle.table.specs.Table.{cellsOf, sizedCells}
 use Rattle.table.specs.Audit.{sized, sound, auditGrounds}
-use Rattle.table.specs.Calls.{verdict, onVerdict, Ends}
+use Rattle.table.specs.Calls.{Ground, verdict, onVerdict, Ends}
 use Rattle.table.specs.Numbers.{numberOf}
-use Rattle.table.specs.declared.Refusal.{Refusal}
 use Rattle.table.specs.declared.Refusal.the-variants.{Length, Invalid, BadContents, BadNumber}
 use Rattle.table.specs.declared.Verdict.{Verdict}
 use Rattle.table.specs.declared.Verdict.the-variants.{Accepted, Refused}
-use Rattle.counting.proofs.Cases.{true-or-false}
-use Rattle.audit.specs.Empty.{emptied, emptyLeaves}
-use Rattle.audit.proofs.Sizes.{sized-is-sized, no-cells, some-cells}
 use Rattle.table.proofs.Records.{sized-cells-is}
-use Rattle.audit.proofs.Grounds.{accepted-none-applies}
+use Rattle.audit.specs.Empty.{emptied, emptyLeaves}
+use Rattle.audit.proofs.Sizes.{sized-is-sized, sized-says, no-cells, some-cells}
 use Rattle.sketch.specs.Read.{contentsFit, numbersFit, described, readVerdict, readLeaves}
-use Rattle.sketch.proofs.Accepted.{says-accepted}
-use Rattle.sketch.proofs.Described.{described-length}
+use Rattle.sketch.proofs.Described.{described-sized}
+
+-- the grounds after the length, for a table of n cells
+abbrev pub fileGrounds : ℕ → List ℕ → List Ground
+fileGrounds n f =
+    record { refusal = BadContents; applies = not (contentsFit n f) }
+    ∷ record { refusal = BadNumber; applies = not (numbersFit n f) }
+    ∷ record { refusal = Invalid; applies = not (sound (described n f)) }
+    ∷ []
+
+-- what a table of n cells says to a file
+module _ (n : ℕ) (f : List ℕ) where
+  pub says-contents : false ≡ contentsFit n f → Refused BadContents ≡ verdict (fileGrounds n f)
+  says-contents a = rw (sym a)
+
+  pub says-number : true ≡ contentsFit n f → false ≡ numbersFit n f → Refused BadNumber ≡ verdict (fileGrounds n f)
+  says-number a b = rw (sym a, sym b)
+
+  -- a described table has a table's length, so the audit decides the last ground
+  pub says-audit :
+      (u : List ℕ) → 1 ≤ n → n ≤ capacity → true ≡ contentsFit n f → true ≡ numbersFit n f → u ≡ described n f →
+      verdict (auditGrounds u) ≡ verdict (fileGrounds n f)
+  says-audit u h l a b e = rw (e, sym a, sym b, sized-says (described n f) (described-sized n f h l))
 
 -- words of the same number are both of a table's length or both not
 sized-by-length : (t u : List ℕ) → length u ≡ length t → sized u ≡ sized t
@@ -38,112 +54,60 @@ empties : (t : List ℕ) → sized t ≡ true → emptyLeaves t ≡ replicate (l
 unfolding emptied
 empties t s = rw s
 
--- what the audit says of words of a table's length
-audit-sound : (u : List ℕ) → verdict (auditGrounds u) ≡ Accepted → sound u ≡ true
-audit-sound u e = not-false (sound u) (accepted-none-applies (auditGrounds u) e .1 .0)
+-- after the length no ground has the number 1
+abbrev said : Bool → Bool → Bool → Verdict
+said a b c = pick a (Refused BadContents) (pick b (Refused BadNumber) (pick c (Refused Invalid) Accepted))
 
-audit-unsound : (u : List ℕ) (r : Refusal) → sized u ≡ true → verdict (auditGrounds u) ≡ Refused r → sound u ≡ false
-audit-unsound u r s e = ⊎-elim (λ z. absurd (clash z)) (λ z. z) (true-or-false (sound u))
-  where
-    clash : sound u ≡ true → ⊥
-    clash z =
-        let a : verdict (auditGrounds u) ≡ Accepted = rw (s, z) in
-        let o : _≡_ {A = ℕ} 0 1 = cc in
-        omega arith
+not-kept : (a b c : Bool) (x y z : List ℕ) → onVerdict (said a b c) x (λ r. pick (eqb (numberOf r) 1) y z) ≡ onVerdict (said a b c) x (λ r. z)
+not-kept true b c x y z = refl
+not-kept false true c x y z = refl
+not-kept false false true x y z = refl
+not-kept false false false x y z = refl
 
-module _ (t f : List ℕ) where
-  -- the four grounds
-  on-length : sized t ≡ false → readVerdict t f ≡ Refused Length
-  unfolding readVerdict
-  on-length a = rw a
+-- the length is no table's
+pub ends-length :
+    (t f u : List ℕ) (n : ℕ) → n ≡ sizedCells t → n ≡ 0 → u ≡ emptyLeaves t → Ends (readVerdict t f) (readLeaves t f) (Refused Length) u
+unfolding readVerdict
+ends-length t f u n e z a = let s = no-cells t (sym e ∙ z) in record { answer = simp s; left = a ∙ simp s }
 
-  on-contents : sized t ≡ true → contentsFit (cellsOf t) f ≡ false → readVerdict t f ≡ Refused BadContents
-  unfolding readVerdict
-  on-contents a b = rw (a, b)
+-- the length is that of a table of n cells
+pub record OfCells (t : List ℕ) (n : ℕ) : Type 0 where
+  pub size : sized t ≡ true
+  pub cells : n ≡ cellsOf t
 
-  on-numbers : sized t ≡ true → contentsFit (cellsOf t) f ≡ true → numbersFit (cellsOf t) f ≡ false → readVerdict t f ≡ Refused BadNumber
-  unfolding readVerdict
-  on-numbers a b c = rw (a, b, c)
+pub of-cells : (t : List ℕ) (n : ℕ) → n ≡ sizedCells t → (n ≡ 0 → ⊥) → OfCells t n
+of-cells t n e h =
+    let s = some-cells t (λ z. h (e ∙ z)) in
+    record { size = s; cells = e ∙ sized-cells-is t (sized-is-sized t s) }
 
-  on-validity :
-      sized t ≡ true → contentsFit (cellsOf t) f ≡ true → numbersFit (cellsOf t) f ≡ true →
-      sound (described (cellsOf t) f) ≡ false → readVerdict t f ≡ Refused Invalid
-  unfolding readVerdict
-  on-validity a b c d = rw (a, b, c, d)
+module _ {t : List ℕ} {n : ℕ} (o : OfCells t n) where
+  -- a table of this length, emptied
+  pub cleared : (u v : List ℕ) → length u ≡ length t → v ≡ emptyLeaves u → v ≡ replicate (length t) freeMark
+  cleared u v l a = a ∙ empties u (sized-by-length t u l ∙ o .size) ∙ ap (λ m. replicate m freeMark) l
 
-  refused :
-      (r : Refusal) (v : Verdict) (u : List ℕ) → readVerdict t f ≡ Refused r → v ≡ Refused r →
-      u ≡ pick (eqb (numberOf r) 1) t (replicate (length t) freeMark) → Ends (readVerdict t f) (readLeaves t f) v u
-  refused r v u e i h =
-      record {
-        answer = i ∙ sym e;
-        left = h ∙ sym (ap (λ v. onVerdict v (described (cellsOf t) f) (λ r. pick (eqb (numberOf r) 1) t (replicate (length t) freeMark))) e);
-      }
+  pub starts : (u : List ℕ) → u ≡ emptyLeaves t → (1 ≤ n) × (n ≤ capacity) × (u ≡ replicate (n * width) freeMark)
+  starts u a =
+      let s = sized-is-sized t (o .size) in
+      let l : length t ≡ n * width = s .whole ∙ ap (λ m. m * width) (sym (o .cells)) in
+      (omega (arith, o .cells, s .some), omega (arith, o .cells, s .room), cleared t u refl a ∙ ap (λ m. replicate m freeMark) l)
 
-  accepted : (u : List ℕ) → readVerdict t f ≡ Accepted → u ≡ described (cellsOf t) f → Ends (readVerdict t f) (readLeaves t f) Accepted u
-  accepted u e h =
-      record {
-        answer = sym e;
-        left = h ∙ sym (ap (λ v. onVerdict v (described (cellsOf t) f) (λ r. pick (eqb (numberOf r) 1) t (replicate (length t) freeMark))) e);
-      }
+  module _ (f : List ℕ) where
+    answer-is : readVerdict t f ≡ verdict (fileGrounds n f)
+    unfolding readVerdict
+    answer-is = rw (o .size) (ap (λ m. verdict (fileGrounds m f)) (sym (o .cells)))
 
-  -- the ways out, with n the number of cells that the length gives
-  module _ (n : ℕ) (e : n ≡ sizedCells t) where
-    pub ends-length : n ≡ 0 → Ends (readVerdict t f) (readLeaves t f) (Refused Length) t
-    ends-length z = refused Length (Refused Length) t (on-length (no-cells t (sym e ∙ z))) refl refl
+    leaves-is : readLeaves t f ≡ onVerdict (verdict (fileGrounds n f)) (described n f) (λ r. replicate (length t) freeMark)
+    leaves-is =
+        ap (λ v. onVerdict v (described (cellsOf t) f) (λ r. pick (eqb (numberOf r) 1) t (replicate (length t) freeMark))) answer-is
+        ∙ not-kept (not (contentsFit n f)) (not (numbersFit n f)) (not (sound (described n f))) (described (cellsOf t) f) t (replicate (length t) freeMark)
+        ∙ ap (λ m. onVerdict (verdict (fileGrounds n f)) (described m f) (λ r. replicate (length t) freeMark)) (sym (o .cells))
 
-    module _ (h : n ≡ 0 → ⊥) where
-      right-size : sized t ≡ true
-      right-size = some-cells t (λ z. h (e ∙ z))
-
-      cells : n ≡ cellsOf t
-      cells = e ∙ sized-cells-is t (sized-is-sized t right-size)
-
-      words : length t ≡ n * width
-      words = sized-is-sized t right-size .whole ∙ ap (λ m. m * width) (sym cells)
-
-      here : (test : ℕ → List ℕ → Bool) (b : Bool) → b ≡ test n f → test (cellsOf t) f ≡ b
-      here test b a = sym (a ∙ ap (λ m. test m f) cells)
-
-      -- a table of this length, emptied again
-      cleared : (u u′ : List ℕ) → length u ≡ length t → u′ ≡ emptyLeaves u → u′ ≡ replicate (length t) freeMark
-      cleared u u′ l a = a ∙ empties u (sized-by-length t u l ∙ right-size) ∙ ap (λ m. replicate m freeMark) l
-
-      pub starts-free : (u : List ℕ) → u ≡ emptyLeaves t → u ≡ replicate (n * width) freeMark
-      starts-free u a = cleared t u refl a ∙ ap (λ m. replicate m freeMark) words
-
-      pub ends-contents : (v : Verdict) (u : List ℕ) → Ends (Refused BadContents) (emptyLeaves t) v u → false ≡ contentsFit n f → Ends (readVerdict t f) (readLeaves t f) v u
-      ends-contents v u a b =
-          refused BadContents v u (on-contents right-size (here contentsFit false b)) (a .answer) (cleared t u refl (a .left))
-
-      pub ends-numbers :
-          (u : List ℕ) (v : Verdict) (u′ : List ℕ) → true ≡ contentsFit n f → false ≡ numbersFit n f → length u ≡ length t →
-          Ends (Refused BadNumber) (emptyLeaves u) v u′ → Ends (readVerdict t f) (readLeaves t f) v u′
-      ends-numbers u v u′ b c l a =
-          refused BadNumber v u′ (on-numbers right-size (here contentsFit true b) (here numbersFit false c)) (a .answer)
-          (cleared u u′ l (a .left))
-
-      module _ (b : true ≡ contentsFit n f) (c : true ≡ numbersFit n f) (u : List ℕ) (d : u ≡ described n f) where
-        described-here : u ≡ described (cellsOf t) f
-        described-here = d ∙ ap (λ m. described m f) cells
-
-        same-size : length u ≡ length t
-        same-size = ap length d ∙ described-length n f ∙ sym words
-
-        pub ends-accepted : Accepted ≡ verdict (auditGrounds u) → Ends (readVerdict t f) (readLeaves t f) Accepted u
-        ends-accepted v =
-            accepted u
-            (says-accepted t f right-size (here contentsFit true b) (here numbersFit true c)
-            (subst (λ x. sound x ≡ true) described-here (audit-sound u (sym v))))
-            described-here
-
-        pub ends-invalid :
-            (r : Refusal) (v : Verdict) (u′ : List ℕ) → Refused r ≡ verdict (auditGrounds u) → Ends (Refused Invalid) (emptyLeaves u) v u′ →
-            Ends (readVerdict t f) (readLeaves t f) v u′
-        ends-invalid r v u′ w a =
-            refused Invalid v u′
-            (on-validity right-size (here contentsFit true b) (here numbersFit true c)
-            (subst (λ x. sound x ≡ false) described-here
-            (audit-unsound u r (sized-by-length t u same-size ∙ right-size) (sym w))))
-            (a .answer)
-            (cleared u u′ same-size (a .left))
+    -- the ways out after the length
+    pub ends :
+        (r v : Verdict) (u : List ℕ) → r ≡ verdict (fileGrounds n f) → v ≡ r →
+        u ≡ onVerdict r (described n f) (λ s. replicate (length t) freeMark) → Ends (readVerdict t f) (readLeaves t f) v u
+    ends r v u a i d =
+        record {
+          answer = i ∙ a ∙ sym answer-is;
+          left = d ∙ ap (λ w. onVerdict w (described n f) (λ s. replicate (length t) freeMark)) a ∙ sym leaves-is;
+        }

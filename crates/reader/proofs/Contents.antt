@@ -7,13 +7,16 @@ use Prim.Native.Nat.{ℕ, _+_, _*_, _≤_, _<_}
 use native.Mathlib.Nat.{add-mul, add-assoc, mul-le-mul-left, mul-le-mul-right}
 use native.Mathlib.Omega.{arith}
 use lib.ListN.{length}
-use Rattle.counting.proofs.Cases.{not-true-false}
 use Rattle.table.specs.Kind.{top}
+use Rattle.counting.proofs.Cases.{not-true-false}
 use Rattle.sketch.specs.Form.{twoAt, fourAt, dimensions, contentsSize, offsetPlace, recordSize, bodyStart}
 use Rattle.sketch.specs.Read.{countIn, recordIn, contentsFit}
 use Rattle.sketch.proofs.Fits.{Fits, contents-fit, fit-contents}
 use Rattle.sketch.proofs.Sizes.{bodyStart-more, bodyStart-grows}
-use Rattle.reader.specs.Taking.{longestBody}
+
+-- the most bytes that a body can have, by a count of 16 bits
+abbrev pub longestBody : ℕ
+longestBody = 65535 * recordSize top
 
 -- no record is longer than that of the largest dimension
 pub body-most : (k s : ℕ) → k < 65536 → s ≤ recordSize top → k * s ≤ longestBody
@@ -53,8 +56,8 @@ module _ (n : ℕ) (f : List ℕ) where
 
 module _ (f : List ℕ) where
   -- the start of the next body
-  pub start-more : (p s k b : ℕ) → s ≡ bodyStart (countIn f) p → k ≡ countIn f p → b ≡ k * recordSize p → s + b ≡ bodyStart (countIn f) (p + 1)
-  start-more p s k b e i g = ap₂ _+_ e (g ∙ ap (λ x. x * recordSize p) i) ∙ sym (bodyStart-more (countIn f) p)
+  pub start-more : (p s k b : ℕ) → s ≡ bodyStart (countIn f) p → k ≡ countIn f p → b ≡ recordSize p → s + k * b ≡ bodyStart (countIn f) (p + 1)
+  start-more p s k b e i g = ap₂ _+_ e (ap₂ _*_ i g) ∙ sym (bodyStart-more (countIn f) p)
 
   -- the first record of a body, and the one after record i
   pub record-first : (p : ℕ) → recordIn f p 0 ≡ bodyStart (countIn f) p

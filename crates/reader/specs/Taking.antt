@@ -1,29 +1,30 @@
 -- What the reader has taken in on its way through the bodies. The call's own contract does not need these; the contracts of its parts do.
 -- A reader need not believe this file: proofs/ ties it to the definitions of the sketch file.
 use mathlib.Core.Path.{_≡_}
-use mathlib.Core.Bool.{Bool, true}
+use mathlib.Core.Bool.{Bool, false}
 use mathlib.Core.List.{List}
 use mathlib.Core.Logic.{_⊎_}
-use Prim.Native.Nat.{ℕ, _+_, _*_, _≤_, _<_}
-use lib.ListN.{length}
-use Rattle.table.specs.Kind.{top, faces, width, freeMark, used}
+use Prim.Native.Nat.{ℕ, _+_, _*_, _<_}
+use lib.ListN.{length, getD}
+use lib.Dec.{ltb}
+use Rattle.counting.specs.Counting.{pick}
+use Rattle.table.specs.Kind.{faces, width, freeMark, used}
 use Rattle.table.specs.Table.{dim, face}
-use Rattle.table.specs.Audit.{all}
-use Rattle.sketch.specs.Form.{twoAt, recordSize, facePlace}
-use Rattle.sketch.specs.Read.{countIn, numberIn, faceIn, numberFits}
+use Rattle.sketch.specs.Form.{twoAt, facePlace}
+use Rattle.sketch.specs.Read.{countIn, recordIn, numberIn, inBody, numbersFit}
 
--- the most bytes that a body can have, by a count of 16 bits
-abbrev pub longestBody : ℕ
-longestBody = 65535 * recordSize top
+-- the face words of the p-cell whose record stands at this place: those that it does not use are free
+unfoldable pub facesAt : List ℕ → ℕ → ℕ → ℕ → ℕ
+facesAt f p at j = pick (ltb j (used p)) (twoAt f (at + facePlace j)) freeMark
 
--- Record c has become a p-cell whose faces below j are those that stand in the file's record at this place; every other word stays.
-pub record Stored (old f : List ℕ) (c p at j : ℕ) (new : List ℕ) : Type 0 where
-  pub size : length new ≡ length old
-  pub here : dim new c ≡ p
-  pub given : (k : ℕ) → k < j → face new c k ≡ twoAt f (at + facePlace k)
-  pub kept : (k : ℕ) → j ≤ k → k < faces → face new c k ≡ face old c k
-  pub dims : (d : ℕ) → (d ≡ c → ⊥) → dim new d ≡ dim old d
-  pub beside : (d k : ℕ) → (d ≡ c → ⊥) → k < faces → face new d k ≡ face old d k
+-- seven words by value are the faces g
+abbrev pub FacesAre : List ℕ → (ℕ → ℕ) → Type 0
+FacesAre fs g = (j : ℕ) → j < faces → getD fs j 0 ≡ g j
+
+-- record c has dimension p and faces g
+pub record Holds (t : List ℕ) (c p : ℕ) (g : ℕ → ℕ) : Type 0 where
+  pub dims : dim t c ≡ p
+  pub sides : (j : ℕ) → j < faces → face t c j ≡ g j
 
 -- record k of body q comes before record i of body p
 abbrev pub Earlier : List ℕ → ℕ → ℕ → ℕ → ℕ → Type 0
@@ -33,16 +34,20 @@ Earlier f p i q k = ((q < p) × (k < countIn f q)) ⊎ ((q ≡ p) × (k < i))
 abbrev pub Unmet : List ℕ → ℕ → ℕ → ℕ → Type 0
 Unmet f p i c = (q k : ℕ) → Earlier f p i q k → numberIn f q k ≡ c → ⊥
 
--- The table of n cells has every record before record i of body p, and is free elsewhere.
+-- the k-th number of body q is below n, above those before it, and in no lower body
+abbrev pub InOrder : ℕ → List ℕ → ℕ → ℕ → Type 0
+InOrder n f q k =
+    (numberIn f q k < n)
+    × ((l : ℕ) → l < k → numberIn f q l < numberIn f q k)
+    × ((r : ℕ) → r < q → inBody f r (numberIn f q k) ≡ false)
+
+-- The table of n cells has every record before record i of body p, and is free elsewhere; and the numbers of those records are in order.
 pub record Taken (n : ℕ) (f t : List ℕ) (p i : ℕ) : Type 0 where
   pub size : length t ≡ n * width
-  pub dims : (q k : ℕ) → Earlier f p i q k → dim t (numberIn f q k) ≡ q
-  pub given : (q k j : ℕ) → Earlier f p i q k → j < used q → face t (numberIn f q k) j ≡ faceIn f q k j
-  pub unused : (q k j : ℕ) → Earlier f p i q k → used q ≤ j → j < faces → face t (numberIn f q k) j ≡ freeMark
-  pub free : (c : ℕ) → c < n → Unmet f p i c → dim t c ≡ freeMark
-  pub bare : (c j : ℕ) → c < n → j < faces → Unmet f p i c → face t c j ≡ freeMark
+  pub met : (q k : ℕ) → Earlier f p i q k → Holds t (numberIn f q k) q (facesAt f q (recordIn f q k))
+  pub free : (c : ℕ) → c < n → Unmet f p i c → Holds t c freeMark (λ j. freeMark)
+  pub order : (q k : ℕ) → Earlier f p i q k → InOrder n f q k
 
--- Whether body p was taken in: its numbers are in order, and then its records stand in the table.
-pub record BodyTaken (n : ℕ) (f : List ℕ) (p : ℕ) (r : Bool) (t : List ℕ) : Type 0 where
-  pub fits : r ≡ all (countIn f p) (numberFits n f p)
-  pub taken : r ≡ true → Taken n f t (p + 1) 0
+-- whether body p was taken in: if not, a number of the file is not in order
+abbrev pub BodyTaken : ℕ → List ℕ → ℕ → Bool → List ℕ → Type 0
+BodyTaken n f p r t = pick r (Taken n f t (p + 1) 0) (numbersFit n f ≡ false)

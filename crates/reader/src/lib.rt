@@ -1,16 +1,16 @@
-// The sketch file's reader, on any bytes at all. The table's old contents are not looked at. The contents are tested first; then the
-// bodies go into the emptied table, record by record: a record that is no longer free has a number of a lower body.
+// The sketch file's reader, on any bytes at all. The table's old contents are not looked at: it is emptied first. Then the contents are
+// tested, and the bodies go into the table, record by record: a record that is no longer free has a number of a lower body.
 ghost use mathlib.Core.Path.{_≡_};
 ghost use mathlib.Core.Bool.{true};
 ghost use Prim.Native.Nat.{_+_, _*_, _≤_, _<_};
 ghost use lib.ListN.{length, replicate};
-ghost use Rattle.table.specs.Kind.{top, width, freeMark, used};
+ghost use Rattle.table.specs.Kind.{top, width, freeMark};
+ghost use Rattle.table.specs.Table.{sizedCells};
 ghost use Rattle.table.specs.Calls.{Ends};
-ghost use Rattle.table.specs.declared.Verdict.the-variants.{Refused};
 ghost use Rattle.audit.specs.Empty.{emptyLeaves};
 ghost use Rattle.sketch.specs.Form.{twoAt, fourAt, dimensions, contentsSize, entrySize, offsetPlace, recordSize};
 ghost use Rattle.sketch.specs.Read.{countIn, contentsFit, numbersFit, described, readVerdict, readLeaves};
-ghost use Rattle.reader.specs.Taking.{longestBody, Stored, Taken, BodyTaken};
+ghost use Rattle.reader.specs.Taking.{facesAt, FacesAre, Taken, BodyTaken};
 use table::Refusal;
 use table::Table;
 use table::Verdict;
@@ -30,25 +30,19 @@ fn same_numbers()
     ensures { λ _. do ⌜ (← ⟦CONTENTS⟧ .entry) ≡ contentsSize ⌝ }
 {}
 
+// The number that two bytes make.
+fn number_of(low: u8, high: u8) -> u16
+    ensures { λ r. ⌜ r ≡ low + high * 256 ⌝ }
+{
+    low as u16 + high as u16 * 256
+}
+
 // The number in 2 bytes at place i, the low byte first.
 fn two_at(file: &[u8], i: usize) -> u16
     requires { ⌜ i + 2 ≤ length (now file) ⌝ }
     ensures { λ r. ⌜ r ≡ twoAt (now (file .entry)) i ⌝ }
 {
-    let low = file[i];
-    let high = file[i + 1];
-    low as u16 + high as u16 * 256
-}
-
-// The number in 4 bytes at place i, the low byte first.
-fn four_at(file: &[u8], i: usize) -> usize
-    requires { ⌜ i + 4 ≤ length (now file) ⌝ }
-    ensures { λ r. ⌜ r ≡ fourAt (now (file .entry)) i ⌝ }
-{
-    file[i] as usize
-        + file[i + 1] as usize * 256
-        + file[i + 2] as usize * 65536
-        + file[i + 3] as usize * 16777216
+    number_of(file[i], file[i + 1])
 }
 
 // The count of p-cells that the contents name.
@@ -59,12 +53,13 @@ fn count_in(file: &[u8], p: u16) -> u16
     two_at(file, 2 + p as usize * ENTRY)
 }
 
-// The offset that the contents give body p.
+// The offset that the contents give body p, the low byte first.
 fn offset_in(file: &[u8], p: u16) -> usize
     requires { ⌜ (contentsSize ≤ length (now file)) × (p < dimensions) ⌝ }
     ensures { λ r. ⌜ r ≡ fourAt (now (file .entry)) (offsetPlace p) ⌝ }
 {
-    four_at(file, 4 + p as usize * ENTRY)
+    let i = 4 + p as usize * ENTRY;
+    two_at(file, i) as usize + two_at(file, i + 2) as usize * 65536
 }
 
 // The bytes of a p-cell's record.
@@ -72,13 +67,6 @@ fn record_size(p: u16) -> usize
     ensures { λ r. ⌜ (r ≡ recordSize p) × (r ≤ recordSize top) ⌝ }
 {
     2 + 2 * Table::used(p)
-}
-
-// The bytes of a body of so many p-cells.
-fn body_size(count: u16, p: u16) -> usize
-    ensures { λ r. ⌜ (r ≡ count * recordSize p) × (r ≤ longestBody) ⌝ }
-{
-    count as usize * record_size(p)
 }
 
 // Whether the file has its contents, with this N, every offset where its body starts, and no byte after the last body.
@@ -97,7 +85,7 @@ fn contents_fit(file: &[u8], n: usize) -> bool
         if offset_in(file, p) != start {
             return false;
         }
-        start += body_size(count_in(file, p), p);
+        start += count_in(file, p) as usize * record_size(p);
         p += 1;
     }
     if start != file.len() {
@@ -106,19 +94,19 @@ fn contents_fit(file: &[u8], n: usize) -> bool
     true
 }
 
-// Makes record c the p-cell that stands at this place of the file. Words that it does not use stay.
-fn store(t: &mut [u16], file: &[u8], c: usize, p: u16, at: usize)
-    requires { ⌜ (c * width + width ≤ length (now t)) × (at + recordSize p ≤ length (now file)) ⌝ }
-    ensures { λ _. ⌜ Stored (now (t .entry)) (now (file .entry)) c p at (used p) (now (t .exit)) ⌝ }
+// The seven face words of the p-cell whose record stands at this place of the file. Those that it does not use are free.
+fn faces_at(file: &[u8], p: u16, at: usize) -> [u16; Table::FACES]
+    requires { ⌜ at + recordSize p ≤ length (now file) ⌝ }
+    ensures { λ r. ⌜ FacesAre r (facesAt (now (file .entry)) p at) ⌝ }
 {
-    let word = c * Table::WORDS;
     let used = Table::used(p);
-    t[word] = p;
+    let mut r = [Table::FREE; Table::FACES];
     let mut j = 0;
     while j < used {
-        t[word + (1 + j)] = two_at(file, at + (2 + 2 * j));
+        r[j] = two_at(file, at + (2 + 2 * j));
         j += 1;
     }
+    r
 }
 
 // Takes body p in, record by record, up to the first number that is not in order: it must be at least `low`, one above the number
@@ -140,10 +128,10 @@ fn take_body(t: &mut [u16], file: &[u8], n: usize, p: u16) -> bool
         if c >= n {
             return false;
         }
-        if t[c * Table::WORDS] != Table::FREE {
+        if Table::dim(t, c) != Table::FREE {
             return false;
         }
-        store(t, file, c, p, at);
+        Table::put(t, c, p, faces_at(file, p, at));
         low = c + 1;
         at += size;
         i += 1;
@@ -166,12 +154,13 @@ fn take_bodies(t: &mut [u16], file: &[u8], n: usize) -> bool
     true
 }
 
-// Refuses, and leaves every word of the table the free mark.
-fn refuse(words: &mut [u16], r: Refusal) -> Verdict
-    ensures { λ v. ⌜ Ends (Refused r) (emptyLeaves (now (words .entry))) v (now (words .exit)) ⌝ }
+// Leaves every word of the table the free mark, and gives its number of cells: 0 where the length is no table's; then no word changes.
+fn clear(t: &mut [u16]) -> usize
+    ensures { λ n. ⌜ Ends (sizedCells (now (t .entry))) (emptyLeaves (now (t .entry))) n (now (t .exit)) ⌝ }
 {
-    audit::empty(words);
-    Verdict::Refused(r)
+    let n = Table::of(t).cells;
+    audit::empty(t);
+    n
 }
 
 // Fills the table from a sketch file. Refused with 1, 15, 16, 2, in that order: with 1 no word changes, with any other every word is
@@ -179,20 +168,20 @@ fn refuse(words: &mut [u16], r: Refusal) -> Verdict
 pub fn read(t: &mut [u16], file: &[u8]) -> Verdict
     ensures { λ r. ⌜ Ends (readVerdict (now (t .entry)) (now (file .entry))) (readLeaves (now (t .entry)) (now (file .entry))) r (now (t .exit)) ⌝ }
 {
-    let n = Table::of(t).cells;
+    let n = clear(t);
     if n == 0 {
         return Verdict::Refused(Refusal::Length);
     }
     if !contents_fit(file, n) {
-        return refuse(t, Refusal::BadContents);
+        return Verdict::Refused(Refusal::BadContents);
     }
-    audit::empty(t);
     if !take_bodies(t, file, n) {
-        return refuse(t, Refusal::BadNumber);
+        clear(t);
+        return Verdict::Refused(Refusal::BadNumber);
     }
     let found = audit::audit(t);
-    match found {
-        Verdict::Accepted => Verdict::Accepted,
-        Verdict::Refused(_) => refuse(t, Refusal::Invalid),
+    if let Verdict::Refused(_) = found {
+        clear(t);
     }
+    found
 }

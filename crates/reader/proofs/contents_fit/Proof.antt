@@ -8,8 +8,7 @@ use native.Mathlib.Omega.{arith}
 use Rattle.sketch.specs.Form.{twoAt, fourAt, dimensions, contentsSize, offsetPlace, bodyStart}
 use Rattle.sketch.specs.Read.{countIn}
 use Rattle.sketch.proofs.Sizes.{bodyStart-zero}
-use Rattle.reader.specs.Taking.{longestBody}
-use Rattle.reader.proofs.Contents.{unfit-short, unfit-cells, unfit-offset, unfit-length, fit-all, start-more}
+use Rattle.reader.proofs.Contents.{longestBody, body-most, unfit-short, unfit-cells, unfit-offset, unfit-length, fit-all, start-more}
 use Rattle.reader.proofs.contents_fit.Statement.{statement}
 use Rattle.reader.proofs.contents_fit.Tie as tie
 
@@ -59,11 +58,21 @@ returns-3 c =
 count-in-requires : tie.Need-count-in-requires Inv-loop μ-loop
 count-in-requires c κs = omega arith
 
-body-size-requires : tie.Need-body-size-requires Inv-loop μ-loop
-body-size-requires c κs = search needs
+cast-start : tie.Need-cast-start Inv-loop μ-loop
+cast-start c = search needs
+
+record-size-requires : tie.Need-record-size-requires Inv-loop μ-loop
+record-size-requires c κs = search needs
+
+-- a count has 16 bits and a record 16 bytes at most
+fitting : (c : tie.After-record-size Inv-loop μ-loop) → c .before .count-in .result * c .record-size .result ≤ longestBody
+fitting c = body-most (c .before .count-in .result) (c .record-size .result) (omega arith) (c .record-size .ensures .1)
+
+mul-start : tie.Need-mul-start Inv-loop μ-loop
+mul-start c = omega (arith, fitting c)
 
 add-start : tie.Need-add-start Inv-loop μ-loop
-add-start c = omega arith
+add-start c = omega (arith, fitting c)
 
 add-p : tie.Need-add-p Inv-loop μ-loop
 add-p c = omega arith
@@ -77,10 +86,8 @@ loop-again c =
     let l = o .before .before .loop in (
       omega arith,
       l .inv .1,
-      omega arith,
-      start-more _ (l .p) (l .start) (c .before .count-in .result) (c .body-size .result) (l .inv .3)
-          (c .before .count-in .ensures)
-          (c .body-size .ensures .0),
+      omega (arith, fitting c),
+      start-more _ (l .p) (l .start) _ _ (l .inv .3) (c .before .count-in .ensures) (c .record-size .ensures .0),
       below-more _ (l .p) (l .inv .4) (omega (arith, o .offset-in .ensures, c .before .before .if3 .left, l .inv .3)),
     )
 
@@ -117,7 +124,9 @@ contents-fit-spec =
     offset-in-requires
     returns-3
     count-in-requires
-    body-size-requires
+    cast-start
+    record-size-requires
+    mul-start
     add-start
     add-p
     loop-less
