@@ -87,7 +87,7 @@ reducedAdditions t c = getD (rowsBelow t (cellsOf t) .additions) c 0
 
 -- ---- the search
 
-highest-found : (n : ℕ) (x : ℕ → Bool) (m : ℕ) → highestBelow n x ≡ suc m → (m < n) × (x m ≡ true) × ((s : ℕ) → m < s → s < n → x s ≡ false)
+pub highest-found : (n : ℕ) (x : ℕ → Bool) (m : ℕ) → highestBelow n x ≡ suc m → (m < n) × (x m ≡ true) × ((s : ℕ) → m < s → s < n → x s ≡ false)
 unfolding highestBelow
 highest-found zero x m e = absurd (omega arith)
 highest-found (suc n) x m e = by-mark (x n)
@@ -95,7 +95,7 @@ highest-found (suc n) x m e = by-mark (x n)
     (λ h. let r = highest-found n x m (rw h at e) in
     (omega arith, r .1, λ s l k. by-order s n (r .2 s l) (λ q. subst (λ (i : ℕ). x i ≡ false) (sym q) h) (λ q. absurd (omega arith))))
 
-highest-none : (n : ℕ) (x : ℕ → Bool) → highestBelow n x ≡ 0 → (s : ℕ) → s < n → x s ≡ false
+pub highest-none : (n : ℕ) (x : ℕ → Bool) → highestBelow n x ≡ 0 → (s : ℕ) → s < n → x s ≡ false
 unfolding highestBelow
 highest-none zero x e s l = absurd (omega arith)
 highest-none (suc n) x e s l = by-mark (x n)
@@ -103,7 +103,7 @@ highest-none (suc n) x e s l = by-mark (x n)
     (λ h. by-order s n (highest-none n x (rw h at e) s) (λ q. subst (λ (i : ℕ). x i ≡ false) (sym q) h) (λ q. absurd (omega arith)))
 
 -- nothing from m on
-highest-at-most : (n m : ℕ) (x : ℕ → Bool) → Below m x → highestBelow n x ≤ m
+pub highest-at-most : (n m : ℕ) (x : ℕ → Bool) → Below m x → highestBelow n x ≤ m
 highest-at-most n m x below = go (highestBelow n x) refl
   where
     go : (h : ℕ) → highestBelow n x ≡ h → h ≤ m

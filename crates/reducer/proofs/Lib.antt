@@ -7,7 +7,6 @@ pub mod Boundaries
 pub mod Owners
 pub mod Starts
 pub mod RowAdditions
-pub mod RowSteps
 pub mod Progress
 pub mod Arrays
 pub mod Meeting

@@ -2,7 +2,7 @@
 -- What carries it: a row changes itself alone, and the rule for a row looks at lower rows alone. Assumes nothing.
 use mathlib.Core.Path.{_≡_, refl, sym, ap, subst, _∙_}
 use mathlib.Core.Logic.{by-cases}
-use mathlib.Core.Bool.{Bool, false, _&&_}
+use mathlib.Core.Bool.{Bool, true, false, _&&_}
 use mathlib.Core.List.{List}
 use Prim.Native.Nat.{ℕ, suc, _+_, _≤_, _<_}
 use native.Mathlib.Decide.{ℕ-discrete}
@@ -23,9 +23,9 @@ use Rattle.rows.proofs.Boundaries.{boundary-of-empty}
 use Rattle.reducer.specs.Rule.{Additions, LargestOf, RowByRule, additionsIn, alone, emptyRow}
 use Rattle.reducer.specs.Reduce.{counts, Reduction}
 use Rattle.reducer.specs.Work.{Owned, Roomy, Ready, Finished, Fresh}
-use Rattle.reducer.proofs.RowWords.{row-of}
+use Rattle.reducer.proofs.RowWords.{row-at, row-room}
 use Rattle.reducer.proofs.Owners.{owned-more}
-use Rattle.reducer.proofs.Starts.{row-room}
+use Rattle.reducer.proofs.Meeting.{empty-row-has-no-largest}
 use Rattle.reducer.proofs.Zeros.{zeros-row}
 use Rattle.reducer.proofs.RowAdditions.{additions-stay}
 use Rattle.reducer.proofs.Counts.{with-row, with-row-here, with-row-there, additions-few, count-at, counts-none, counts-free, counts-live}
@@ -69,11 +69,11 @@ progress-first t ev kept owner roomy fresh = record {
     bounds = λ m l h. absurd (h (fresh .no-owners m l));
     largest = λ m l h. absurd (h (fresh .no-owners m l));
   };
-  empty-rows = λ b l h. row-of t ev b ∙ zeros-row (rowWidth t) b ev (row-room t ev b (rowWidth t) refl h (omega (arith, roomy .evidence))) (fresh .no-rows);
+  empty-rows = λ b l h. row-at t ev b refl ∙ zeros-row (rowWidth t) b ev (row-room t ev b (rowWidth t) refl (roomy .evidence) h) (fresh .no-rows);
   counted = counts-none t (λ b. 0);
 }
 
-module _ (t : List ℕ) (c : ℕ) (ev kept owner made : List ℕ) (so : Progress t c ev kept owner made) where
+module _ {t : List ℕ} {c : ℕ} {ev kept owner made : List ℕ} (so : Progress t c ev kept owner made) where
   pub progress-ready : c < cellsOf t → Ready t c ev kept owner
   progress-ready h = record { roomy = so .roomy; owned = so .owned; empty = so .empty-rows c (omega arith) h }
 
@@ -83,46 +83,41 @@ module _ (t : List ℕ) (c : ℕ) (ev kept owner made : List ℕ) (so : Progress
       let is : getD made p 0 ≡ additionsIn t (so .adds) p c = ap (λ (l : List ℕ). getD l p 0) (so .counted) ∙ count-at (λ q. additionsIn t (so .adds) q c) p h in
       omega (arith, additions-few t (so .adds) p c (so .few))
 
-  -- a free number
-  free-next : c < cellsOf t → live t c ≡ false → Progress t (suc c) ev kept owner made
-  free-next h free =
+  -- row c is done too, by n additions
+  next : (ev′ kept′ owner′ made′ : List ℕ) (n : ℕ) → Roomy t ev′ kept′ owner′ → ((b : ℕ) → (b ≡ c → ⊥) → rowOf t ev′ b ≡ rowOf t ev b) → RowByRule t ev′ c n → n ≤ capacity → Owned t ev′ kept′ owner′ (suc c)
+      → made′ ≡ counts (λ p. additionsIn t (with-row (so .adds) c n) p (suc c)) → Progress t (c + 1) ev′ kept′ owner′ made′
+  next ev′ kept′ owner′ made′ n roomy others row few owned counted = subst (λ (k : ℕ). Progress t k ev′ kept′ owner′ made′) (sym (add-one c)) (record {
+    adds = with-row (so .adds) c n;
+    roomy = roomy;
+    each = one-row-more c
+        (λ b l. rw (there b l) (rule-stays t ev ev′ b (so .adds b) (λ i k. others i (λ e. omega arith)) (so .each b l)))
+        (rw (with-row-here (so .adds) c n) row);
+    few = one-row-more c (λ b l. rw (there b l) (so .few b l)) (rw (with-row-here (so .adds) c n) few);
+    owned = owned;
+    empty-rows = λ b l k. others b (λ e. omega arith) ∙ so .empty-rows b (omega arith) k;
+    counted = counted;
+  })
+    where
+      there : (b : ℕ) → b < c → with-row (so .adds) c n b ≡ so .adds b
+      there b l = with-row-there (so .adds) c n b (λ e. omega arith)
+
+  -- p is what stands for the dimension: above the largest one the number is free
+  pub progress-free : (p : ℕ) → p ≡ dim t c → c < cellsOf t → top < p → Progress t (c + 1) ev kept owner made
+  progress-free p e h high =
+      let free : live t c ≡ false = not-live t c (omega arith) in
       let row : rowOf t ev c ≡ emptyRow t = so .empty-rows c (omega arith) h in
-      record {
-        adds = with-row (so .adds) c 0;
-        roomy = so .roomy;
-        each = one-row-more c
-            (λ b l. subst (RowByRule t ev b) (sym (with-row-there (so .adds) c 0 b (λ e. omega arith))) (so .each b l))
-            (subst (RowByRule t ev c) (sym (with-row-here (so .adds) c 0)) (record { free-row = λ e. row; free-none = λ e. refl; live-row = λ e. clash e free }));
-        few = one-row-more c
-            (λ b l. subst (λ (n : ℕ). n ≤ capacity) (sym (with-row-there (so .adds) c 0 b (λ e. omega arith))) (so .few b l))
-            (subst (λ (n : ℕ). n ≤ capacity) (sym (with-row-here (so .adds) c 0)) (omega arith));
-        owned = owned-more t ev kept owner c (so .owned) (λ m g. clash (subst (λ (x : List ℕ). LargestOf t x m) row g .member)
-            (boundary-of-empty (cells t) (member (emptyRow t)) (member-zeros (rowWidth t)) m));
-        empty-rows = λ b l k. so .empty-rows b (omega arith) k;
-        counted = so .counted ∙ counts-free t (so .adds) c free;
-      }
+      next ev kept owner made 0 (so .roomy) (λ b apart. refl)
+      (record { free-row = λ q. row; free-none = λ q. refl; live-row = λ q. clash q free }) (omega arith)
+      (owned-more (so .owned) (λ m. empty-row-has-no-largest t (rowOf t ev c) m row))
+      (so .counted ∙ counts-free t (so .adds) c free)
 
   -- a live cell, whose row took n additions
-  live-next : Live t c → (ev′ kept′ owner′ : List ℕ) (n : ℕ) → Finished t c ev ev′ kept′ owner′ n → Progress t (suc c) ev′ kept′ owner′ (set made (dim t c) (getD made (dim t c) 0 + n))
-  live-next living ev′ kept′ owner′ n done = record {
-    adds = with-row (so .adds) c n;
-    roomy = done .roomy;
-    each = one-row-more c
-        (λ b l. subst (RowByRule t ev′ b) (sym (with-row-there (so .adds) c n b (λ e. omega arith))) (rule-stays t ev ev′ b (so .adds b) (λ i k. done .others i (λ e. omega arith)) (so .each b l)))
-        (subst (RowByRule t ev′ c) (sym (with-row-here (so .adds) c n)) (record { free-row = λ e. clash (live-says t c living) e; free-none = λ e. clash (live-says t c living) e; live-row = λ e. done .row }));
-    few = one-row-more c
-        (λ b l. subst (λ (n : ℕ). n ≤ capacity) (sym (with-row-there (so .adds) c n b (λ e. omega arith))) (so .few b l))
-        (subst (λ (n : ℕ). n ≤ capacity) (sym (with-row-here (so .adds) c n)) (done .few));
-    owned = done .owned;
-    empty-rows = λ b l k. done .others b (λ e. omega arith) ∙ so .empty-rows b (omega arith) k;
-    counted = counts-live t (so .adds) c n made (live-says t c living) (living .low) (so .counted);
-  }
-
-  pub progress-free : c < cellsOf t → live t c ≡ false → Progress t (c + 1) ev kept owner made
-  progress-free h free = rw add-one (free-next h free)
-
-  pub progress-live : Live t c → (ev′ kept′ owner′ : List ℕ) (n : ℕ) → Finished t c ev ev′ kept′ owner′ n → Progress t (c + 1) ev′ kept′ owner′ (set made (dim t c) (getD made (dim t c) 0 + n))
-  progress-live living ev′ kept′ owner′ n done = rw add-one (live-next living ev′ kept′ owner′ n done)
+  pub progress-live : (p : ℕ) → p ≡ dim t c → Live t c → {ev′ kept′ owner′ : List ℕ} {n : ℕ} → Finished t c ev ev′ kept′ owner′ n → Progress t (c + 1) ev′ kept′ owner′ (set made p (getD made p 0 + n))
+  progress-live p e living {ev′} {kept′} {owner′} {n} done =
+      let on : live t c ≡ true = live-says t c living in
+      next ev′ kept′ owner′ (set made p (getD made p 0 + n)) n (done .roomy) (done .others)
+      (record { free-row = λ q. clash on q; free-none = λ q. clash on q; live-row = λ q. done .row }) (done .few) (done .owned)
+      (rw e (counts-live t (so .adds) c n made on (living .low) (so .counted)))
 
   pub progress-ends : c ≡ cellsOf t → Reduction t ev made
   progress-ends e = record {
@@ -130,7 +125,3 @@ module _ (t : List ℕ) (c : ℕ) (ev kept owner made : List ℕ) (so : Progress
     by-rule = record { size = so .roomy .evidence; each = λ b l. so .each b (omega arith) };
     counted = subst (λ (n : ℕ). made ≡ counts (λ p. additionsIn t (so .adds) p n)) e (so .counted);
   }
-
--- the same progress under other names
-pub progress-named : {t ev ev′ kept kept′ owner owner′ made made′ : List ℕ} {c : ℕ} → ev′ ≡ ev → kept′ ≡ kept → owner′ ≡ owner → made′ ≡ made → Progress t c ev kept owner made → Progress t c ev′ kept′ owner′ made′
-progress-named {t} {c = c} e k o m so = rw (e, k, o, m) so

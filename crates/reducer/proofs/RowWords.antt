@@ -1,143 +1,85 @@
--- Rows of words, w to a row: the words of a row, rows that agree, and a row that is written word by word from the first.
--- What carries it: a word of another row stands at another place. Assumes nothing.
-use mathlib.Core.Path.{_≡_, refl, sym, ap₂, subst, _∙_}
-use mathlib.Core.Logic.{by-cases}
+-- Rows of words, w to a row: a row that is written word by word, or at one word, and the rows of the evidence among them.
+-- What carries it: rows are chunks of words, and a chunk is written as a run. Assumes nothing.
+use mathlib.Core.Path.{_≡_, refl, sym, ap, ap₂, subst, _∙_}
 use mathlib.Core.List.{List}
-use Prim.Native.Nat.{ℕ, suc, _+_, _*_, _≤_, _<_}
-use native.Mathlib.Decide.{ℕ-discrete}
-use native.Mathlib.Nat.{mul-le-mul-right}
+use Prim.Native.Nat.{ℕ, _+_, _-_, _*_, _/_, _%_, _^_, _≤_, _<_}
 use native.Mathlib.Omega.{arith}
 use lib.Bits.{bitXor}
-use lib.ListN.{length, getD, set, take, drop, length-set, length-take, length-drop}
-use lib.Seq.{ext-getD, getD-take, getD-drop, getD-set-same, getD-set-other, length-take-le}
-use Rattle.homology.proofs.Marks.{by-order}
-use Rattle.bitset.specs.Bits.{sumOf}
+use lib.ListN.{length, getD, set, take, drop, length-set}
+use Rattle.bitset.specs.Bits.{toggled, sumOf}
 use Rattle.bitset.proofs.Marks.{length-sum, sum-at}
-use Rattle.rows.specs.Rows.{rowWidth, rowOf}
-use Rattle.reducer.specs.Work.{rowAt, RowAdded, RowKept}
+use Rattle.bitset.proofs.LowBit.{toggled-by-shift}
+use Rattle.bitset.proofs.Runs.{run-more}
+use Rattle.table.specs.Table.{cellsOf}
+use Rattle.rows.specs.Rows.{rowWidth, evidenceWords, rowOf}
+use Rattle.rows.proofs.Chunks.{chunk-before, length-chunk, getD-chunk, Written, all-written, others-stay, word-written}
+use Rattle.rows.proofs.RowWords.{row-is-chunk, row-ends}
+use Rattle.reducer.specs.Work.{rowAt, RowKept, RowAdded, RowStarted}
 
--- rows of the evidence, and rows of words
-pub row-of : (t ws : List ℕ) (b : ℕ) → rowOf t ws b ≡ rowAt (rowWidth t) ws b
-unfolding rowOf rowAt
-row-of t ws b = refl
+-- k words of row m are written, and that is all of them
+pub row-kept : (w m k : ℕ) (x ws ws′ : List ℕ) → k ≡ w → length x ≡ w → m * w + w ≤ length ws → Written w m k ws x ws′ → RowKept w m x ws ws′
+row-kept w m k x ws ws′ e wide l part =
+    let all : Written w m w ws x ws′ = subst (λ (n : ℕ). Written w m n ws x ws′) e part in
+    record {
+      long = part .long;
+      row = all-written w m ws x ws′ l wide all;
+      others = λ b apart. others-stay w m w b ws x ws′ (omega arith) apart all;
+    }
 
--- a row ends where the next begins
-pub row-ends : (b c w : ℕ) → b < c → b * w + w ≤ c * w
-row-ends b c w h = let e : suc b * w ≤ c * w = mul-le-mul-right w h in omega (arith, e)
+-- row a is added to row c, one word a turn
+module _ (w c a : ℕ) (ws : List ℕ) (h : a < c) (l : c * w + w ≤ length ws) where
+  abbrev total : List ℕ
+  total = sumOf (rowAt w ws c) (rowAt w ws a)
 
-pub length-row : (w : ℕ) (ws : List ℕ) (b : ℕ) → b * w + w ≤ length ws → length (rowAt w ws b) ≡ w
-unfolding rowAt
-length-row w ws b h = length-take-le w (drop (b * w) ws) (simp length-drop (omega arith))
+  to : length (rowAt w ws c) ≡ w
+  to = length-chunk w ws c l
 
-pub row-word : (w : ℕ) (ws : List ℕ) (b k : ℕ) → k < w → getD (rowAt w ws b) k 0 ≡ getD ws (b * w + k) 0
-unfolding rowAt
-row-word w ws b k h = getD-take w (drop (b * w) ws) k 0 h ∙ getD-drop (b * w) ws k 0
+  from : length (rowAt w ws a) ≡ w
+  from = length-chunk w ws a (omega (arith, chunk-before w a c h))
 
--- two lists of words that agree at a row's places have the same row there
-pub rows-agree : (w : ℕ) (x y : List ℕ) (b : ℕ) → length x ≡ length y → ((k : ℕ) → k < w → getD x (b * w + k) 0 ≡ getD y (b * w + k) 0) → rowAt w x b ≡ rowAt w y b
-unfolding rowAt
-rows-agree w x y b e same = ext-getD 0 (rowAt w x b) (rowAt w y b) lengths (λ k h. at k (short k h))
+  pub sum-more : (k : ℕ) (z : List ℕ) → k < w → Written w c k ws total z → Written w c (k + 1) ws total (set z (c * w + k) (bitXor (getD z (c * w + k) 0) (getD z (a * w + k) 0)))
+  sum-more k z g part = run-more (c * w) (λ i. getD total i 0) ws k (c * w + k) _ z refl (omega arith) stored part
+    where
+      -- what a turn stores is the sum of the words as they came
+      stored : bitXor (getD z (c * w + k) 0) (getD z (a * w + k) 0) ≡ getD total k 0
+      stored =
+          ap₂ bitXor
+          (part .after (c * w + k) (omega arith) ∙ sym (getD-chunk w ws c k g))
+          (part .before (a * w + k) (omega (arith, chunk-before w a c h)) ∙ sym (getD-chunk w ws a k g))
+          ∙ sym (sum-at (rowAt w ws c) (rowAt w ws a) (to ∙ sym from) k)
+
+  pub sum-all : (k : ℕ) (z : List ℕ) → k ≡ w → Written w c k ws total z → RowAdded w c a ws z
+  sum-all k z e part = row-kept w c k total ws z e (length-sum (rowAt w ws c) (rowAt w ws a) ∙ to) l part
+
+-- cell c is put into its row, at one word
+pub cell-stored : (w c : ℕ) (ws : List ℕ) → c / 64 < w → c * w + w ≤ length ws
+    → RowStarted w c ws (set ws (c * w + c / 64) (bitXor (getD ws (c * w + c / 64) 0) ((1 * 2 ^ (c % 64)) % 2 ^ 64)))
+cell-stored w c ws h l =
+    subst (λ (x : List ℕ). RowKept w c x ws (set ws (c * w + c / 64) v))
+    (ap (λ (u : ℕ). set (rowAt w ws c) (c / 64) (bitXor u ((1 * 2 ^ (c % 64)) % 2 ^ 64))) (sym (getD-chunk w ws c (c / 64) h)) ∙ toggled-by-shift (rowAt w ws c) c)
+    (row-kept w c w (set (rowAt w ws c) (c / 64) v) ws (set ws (c * w + c / 64) v) refl (length-set (rowAt w ws c) (c / 64) v ∙ length-chunk w ws c l) l (word-written w ws c (c / 64) v l h))
   where
-    lengths : length (take w (drop (b * w) x)) ≡ length (take w (drop (b * w) y))
-    lengths = simp (length-take, length-drop, e)
+    v : ℕ
+    v = bitXor (getD ws (c * w + c / 64) 0) ((1 * 2 ^ (c % 64)) % 2 ^ 64)
 
-    short : (k : ℕ) → k < length (take w (drop (b * w) x)) → k < w
-    short k h = omega (arith, length-take w (drop (b * w) x))
+-- the part that is lent for row m is the row
+abbrev pub part : ℕ → ℕ → List ℕ → List ℕ
+part w m ws = take (m * w + w - m * w) (drop (m * w) ws)
 
-    at : (k : ℕ) → k < w → getD (rowAt w x b) k 0 ≡ getD (rowAt w y b) k 0
-    at k h = row-word w x b k h ∙ same k h ∙ sym (row-word w y b k h)
+pub part-is-row : (w m : ℕ) (ws : List ℕ) → part w m ws ≡ rowAt w ws m
+part-is-row w m ws = let k : m * w + w - m * w ≡ w = omega arith in ap (λ (u : ℕ). take u (drop (m * w) ws)) k
 
--- a word that is stored changes no other row
-pub set-others : (w c j v : ℕ) (x : List ℕ) → j < w → (b : ℕ) → (b ≡ c → ⊥) → rowAt w (set x (c * w + j) v) b ≡ rowAt w x b
-set-others w c j v x h b apart = rows-agree w (set x (c * w + j) v) x b (length-set x (c * w + j) v)
-    (λ k l. getD-set-other x (c * w + j) (b * w + k) v 0 (λ q. by-order b c
-    (λ g. omega (arith, row-ends b c w g))
-    (λ e. apart e)
-    (λ g. omega (arith, row-ends c b w g))))
+-- ---- at the width of the table's rows
 
--- ---- a row that is written from its first word on
+pub row-at : {w : ℕ} (t ws : List ℕ) (b : ℕ) → w ≡ rowWidth t → rowOf t ws b ≡ rowAt w ws b
+row-at t ws b e = row-is-chunk t ws b ∙ sym (ap (λ (u : ℕ). rowAt u ws b) e)
 
--- z is x with the first k words from place p on as f says
-pub record Written (p k : ℕ) (f : ℕ → ℕ) (x z : List ℕ) : Type 0 where
-  pub long : length z ≡ length x
-  pub done : (i : ℕ) → i < k → getD z (p + i) 0 ≡ f i
-  pub before : (i : ℕ) → i < p → getD z i 0 ≡ getD x i 0
-  pub after : (i : ℕ) → p + k ≤ i → getD z i 0 ≡ getD x i 0
+pub row-room : (t ev : List ℕ) (c w : ℕ) → w ≡ rowWidth t → length ev ≡ evidenceWords t → c < cellsOf t → c * w + w ≤ length ev
+row-room t ev c w e long inside = rw e (row-ends t ev long c inside)
 
-pub written-none : (p : ℕ) (f : ℕ → ℕ) (x : List ℕ) → Written p 0 f x x
-written-none p f x = record { long = refl; done = λ i h. absurd (omega arith); before = λ i h. refl; after = λ i h. refl }
+module _ (t : List ℕ) {w m : ℕ} {x ws ws′ : List ℕ} (e : w ≡ rowWidth t) (put : RowKept w m x ws ws′) where
+  pub kept-row : rowOf t ws′ m ≡ x
+  kept-row = row-at t ws′ m e ∙ put .row
 
-pub written-more : (p k : ℕ) (f : ℕ → ℕ) (x z : List ℕ) (v : ℕ) → p + k < length x → v ≡ f k → Written p k f x z → Written p (k + 1) f x (set z (p + k) v)
-written-more p k f x z v h e so = record {
-  long = length-set z (p + k) v ∙ so .long;
-  done = λ i g. by-cases (ℕ-discrete i k) (here i) (λ apart. getD-set-other z (p + k) (p + i) v 0 (λ q. apart (omega arith)) ∙ so .done i (omega arith));
-  before = λ i g. getD-set-other z (p + k) i v 0 (λ q. omega arith) ∙ so .before i g;
-  after = λ i g. getD-set-other z (p + k) i v 0 (λ q. omega arith) ∙ so .after i (omega arith);
-}
-  where
-    here : (i : ℕ) → i ≡ k → getD (set z (p + k) v) (p + i) 0 ≡ f i
-    here i q = subst (λ (j : ℕ). getD (set z (p + k) v) (p + j) 0 ≡ f j) (sym q)
-        (getD-set-same z (p + k) v 0 (omega (arith, so .long)) ∙ e)
-
-module _ (w c : ℕ) (f : ℕ → ℕ) (x z : List ℕ) (so : Written (c * w) w f x z) where
-  -- the row is as it was written
-  pub written-word : (k : ℕ) → k < w → getD (rowAt w z c) k 0 ≡ f k
-  written-word k h = row-word w z c k h ∙ so .done k h
-
-  -- the other rows are as they were
-  pub written-others : (b : ℕ) → (b ≡ c → ⊥) → rowAt w z b ≡ rowAt w x b
-  written-others b apart = rows-agree w z x b (so .long) (λ k h. by-order b c
-      (λ l. so .before (b * w + k) (omega (arith, row-ends b c w l)))
-      (λ e. absurd (apart e))
-      (λ l. so .after (b * w + k) (omega (arith, row-ends c b w l))))
-
--- k words of x are copied, and that is all of them
-pub copy-all : (w m k : ℕ) (x ws ws′ : List ℕ) → k ≡ w → length x ≡ w → m * w + w ≤ length ws → Written (m * w) k (λ i. getD x i 0) ws ws′ → RowKept w m x ws ws′
-copy-all w m k x ws ws′ e long l part = record {
-  long = part .long;
-  row = ext-getD 0 (rowAt w ws′ m) x (wide ∙ sym long) (λ i g. written-word w m (λ i. getD x i 0) ws ws′ so i (omega (arith, wide)));
-  others = written-others w m (λ i. getD x i 0) ws ws′ so;
-}
-  where
-    so : Written (m * w) w (λ i. getD x i 0) ws ws′
-    so = subst (λ (n : ℕ). Written (m * w) n (λ i. getD x i 0) ws ws′) e part
-
-    wide : length (rowAt w ws′ m) ≡ w
-    wide = length-row w ws′ m (omega (arith, part .long))
-
--- ---- one row added to another
-
--- word k of the sum of two rows of x that start at p and q
-abbrev pub sumWord : List ℕ → ℕ → ℕ → ℕ → ℕ
-sumWord x p q k = bitXor (getD x (p + k) 0) (getD x (q + k) 0)
-
--- what a turn stores is the sum of the words as they came
-pub sum-stored : (p q k : ℕ) (x z : List ℕ) → q + k < p → Written p k (sumWord x p q) x z → bitXor (getD z (p + k) 0) (getD z (q + k) 0) ≡ sumWord x p q k
-sum-stored p q k x z h so = ap₂ bitXor (so .after (p + k) (omega arith)) (so .before (q + k) h)
-
-pub sum-more : (p q k : ℕ) (x z : List ℕ) → q + k < p → p + k < length x → Written p k (sumWord x p q) x z → Written p (k + 1) (sumWord x p q) x (set z (p + k) (bitXor (getD z (p + k) 0) (getD z (q + k) 0)))
-sum-more p q k x z h l so = written-more p k (sumWord x p q) x z _ l (sum-stored p q k x z h so) so
-
-pub sum-all : (w c a k : ℕ) (x z : List ℕ) → a < c → k ≡ w → c * w + w ≤ length x → Written (c * w) k (sumWord x (c * w) (a * w)) x z → RowAdded w c a x z
-sum-all w c a k x z h e l part = record {
-  long = part .long;
-  sum = ext-getD 0 (rowAt w z c) (sumOf (rowAt w x c) (rowAt w x a)) (wide ∙ sym (length-sum (rowAt w x c) (rowAt w x a) ∙ to)) (λ i g. at i (omega (arith, wide)));
-  others = written-others w c (sumWord x (c * w) (a * w)) x z so;
-}
-  where
-    so : Written (c * w) w (sumWord x (c * w) (a * w)) x z
-    so = subst (λ (n : ℕ). Written (c * w) n (sumWord x (c * w) (a * w)) x z) e part
-
-    wide : length (rowAt w z c) ≡ w
-    wide = length-row w z c (omega (arith, part .long))
-
-    to : length (rowAt w x c) ≡ w
-    to = length-row w x c l
-
-    from : length (rowAt w x a) ≡ w
-    from = length-row w x a (omega (arith, row-ends a c w h))
-
-    at : (i : ℕ) → i < w → getD (rowAt w z c) i 0 ≡ getD (sumOf (rowAt w x c) (rowAt w x a)) i 0
-    at i g = written-word w c (sumWord x (c * w) (a * w)) x z so i g
-        ∙ ap₂ bitXor (sym (row-word w x c i g)) (sym (row-word w x a i g))
-        ∙ sym (sum-at (rowAt w x c) (rowAt w x a) (to ∙ sym from) i)
+  pub kept-others : (b : ℕ) → (b ≡ m → ⊥) → rowOf t ws′ b ≡ rowOf t ws b
+  kept-others b apart = row-at t ws′ b e ∙ put .others b apart ∙ sym (row-at t ws b e)

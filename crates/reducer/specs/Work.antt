@@ -5,27 +5,29 @@ use mathlib.Core.List.{List}
 use Prim.Native.Nat.{ℕ, suc, _*_, _<_, _≤_}
 use lib.ListN.{length, getD, take, drop}
 use Rattle.homology.specs.Holes.{boundary}
-use Rattle.bitset.specs.Bits.{bits, member, sumOf, IsGreatest}
+use Rattle.bitset.specs.Bits.{bits, member, toggled, sumOf, IsGreatest}
 use Rattle.table.specs.Kind.{capacity, freeMark}
 use Rattle.complex.specs.Cells.{cells}
 use Rattle.rows.specs.Rows.{rowWidth, evidenceWords, rowOf}
 use Rattle.reducer.specs.Rule.{Additions, LargestOf, alone, emptyRow}
 
 -- row b of words that stand w to a row
-unfoldable pub rowAt : ℕ → List ℕ → ℕ → List ℕ
+abbrev pub rowAt : ℕ → List ℕ → ℕ → List ℕ
 rowAt w ws b = take w (drop (b * w) ws)
 
--- row a was added to row c, and no other row changed
-pub record RowAdded (w c a : ℕ) (ws ws′ : List ℕ) : Type 0 where
-  pub long : length ws′ ≡ length ws
-  pub sum : rowAt w ws′ c ≡ sumOf (rowAt w ws c) (rowAt w ws a)
-  pub others : (b : ℕ) → (b ≡ c → ⊥) → rowAt w ws′ b ≡ rowAt w ws b
-
--- row m was set to these words, and no other row changed
+-- row m was set to the words x, and no other row changed
 pub record RowKept (w m : ℕ) (x ws ws′ : List ℕ) : Type 0 where
   pub long : length ws′ ≡ length ws
   pub row : rowAt w ws′ m ≡ x
   pub others : (i : ℕ) → (i ≡ m → ⊥) → rowAt w ws′ i ≡ rowAt w ws i
+
+-- row a was added to row c
+abbrev pub RowAdded : ℕ → ℕ → ℕ → List ℕ → List ℕ → Type 0
+RowAdded w c a ws ws′ = RowKept w c (sumOf (rowAt w ws c) (rowAt w ws a)) ws ws′
+
+-- cell c was put into row c, or taken out
+abbrev pub RowStarted : ℕ → ℕ → List ℕ → List ℕ → Type 0
+RowStarted w c ws ws′ = RowKept w c (toggled (rowAt w ws c) c) ws ws′
 
 -- the words x are the boundary of the row y
 pub record Bounds (t x y : List ℕ) : Type 0 where

@@ -1,12 +1,12 @@
 // The reducer: makes evidence for a hole count. It keeps the boundaries of finished rows, each at its largest cell, beside the number
 // of the row; taking boundaries anew for each addition would cost two orders of magnitude on the worst table. It asks no heap.
 ghost use mathlib.Core.Path.{_≡_};
-ghost use Prim.Native.Nat.{ℕ, _+_, _*_, _≤_, _<_};
+ghost use Prim.Native.Nat.{ℕ, _+_, _*_, _/_, _≤_, _<_};
 ghost use lib.ListN.{length, getD};
 ghost use Rattle.table.specs.Table.{cellsOf, Live, Valid};
 ghost use Rattle.rows.specs.Rows.{rowWidth, evidenceWords};
 ghost use Rattle.reducer.specs.Reduce.{Reduces, Reduction, reduceVerdict};
-ghost use Rattle.reducer.specs.Work.{RowAdded, RowKept, Roomy, Ready, Begun, Finished, Fresh, Cleared};
+ghost use Rattle.reducer.specs.Work.{RowStarted, RowAdded, RowKept, Roomy, Ready, Begun, Finished, Fresh, Cleared};
 use bitset::Top;
 use table::Refusal;
 use table::Table;
@@ -16,6 +16,16 @@ use table::Verdict;
 pub struct Reduced {
     pub verdict: Verdict,
     pub additions: [u64; 7],
+}
+
+// Puts cell c into row c, which is empty.
+fn start_row(evidence: &mut [u64], c: usize, w: usize)
+    requires { ⌜ c / 64 < w ⌝ }
+    requires { ⌜ c * w + w ≤ length (now evidence) ⌝ }
+    ensures { λ _. ⌜ RowStarted w c (now (evidence .entry)) (now (evidence .exit)) ⌝ }
+{
+    let k = c * w + c / 64;
+    evidence[k] ^= (1 << (c % 64));
 }
 
 // Adds the earlier row a to row c.
@@ -103,8 +113,7 @@ fn reduce_row(
     requires { ⌜ Ready (now t) c (now evidence) (now kept) (now owner) ⌝ }
     ensures { λ n. ⌜ Finished (now (t .entry)) c (now (evidence .entry)) (now (evidence .exit)) (now (kept .exit)) (now (owner .exit)) n ⌝ }
 {
-    let at = c * w;
-    evidence[at + c / 64] = evidence[at + c / 64] ^ (1 << (c % 64));
+    start_row(evidence, c, w);
     let mut faces = [0; 8];
     rows::add_faces(t, c, &mut faces);
     finish_row(t, c, w, &mut faces[..w], evidence, kept, owner)
@@ -117,17 +126,17 @@ fn reduce_rows(t: &[u16], evidence: &mut [u64], kept: &mut [u64], owner: &mut [u
     requires { ⌜ Fresh (now evidence) (now owner) ⌝ }
     ensures { λ r. ⌜ Reduction (now (t .entry)) (now (evidence .exit)) r ⌝ }
 {
-    let n = t.len() / Table::WORDS;
+    let n = Table::room(t);
     let w = bitset::words_for(n);
     let mut additions = [0; 7];
-    let mut c = 0;
-    while c < n {
-        let p = t[c * Table::WORDS];
-        if p <= Table::TOP {
-            let made = reduce_row(t, c, w, evidence, kept, owner);
-            additions[p as usize] = additions[p as usize] + made;
+    for c in 0..n {
+        let p = Table::dim(t, c);
+        if p > Table::TOP {
+            continue;
         }
-        c += 1;
+        let made = reduce_row(t, c, w, evidence, kept, owner);
+        let at = p as usize;
+        additions[at] += made;
     }
     additions
 }
@@ -188,10 +197,11 @@ fn fill(t: &[u16], evidence: &mut [u64]) -> [u64; 7]
     ensures { λ r. ⌜ Reduction (now (t .entry)) (now (evidence .exit)) r ⌝ }
 {
     clear(evidence);
-    if t.len() / Table::WORDS <= 64 {
+    let n = Table::room(t);
+    if n <= 64 {
         return fill_small(t, evidence);
     }
-    if t.len() / Table::WORDS <= 256 {
+    if n <= 256 {
         return fill_middle(t, evidence);
     }
     fill_large(t, evidence)

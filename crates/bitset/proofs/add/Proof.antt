@@ -3,19 +3,20 @@ use mathlib.Core.Path.{_≡_}
 use Prim.Native.Nat.{_≤_, _-_}
 use native.Mathlib.Omega.{arith}
 use lib.ListN.{length, length-set}
-use Rattle.bitset.proofs.Adding.{PartSum, part-none, part-more, part-all}
+use Rattle.bitset.proofs.Runs.{Run, run-none}
+use Rattle.bitset.proofs.Adding.{sumWord, sum-more, sum-all}
 use borrow.Author.Needs.{needs}
 use Rattle.bitset.proofs.add.Statement.{statement}
 use Rattle.bitset.proofs.add.Tie as tie
 
 abbrev Inv-loop : tie.InvT-loop
-Inv-loop into₀ from w₀ into w = (w ≤ length from) × (length into ≡ length into₀) × PartSum into₀ from w into
+Inv-loop into₀ from w₀ into w = (w ≤ length from) × (length into ≡ length into₀) × Run 0 w (sumWord into₀ from) into₀ into
 
 abbrev μ-loop : tie.MeasureT-loop
 μ-loop into₀ from w₀ into w = length from - w
 
 loop-holds : tie.Need-loop-holds Inv-loop μ-loop
-loop-holds c = (search needs, search needs, part-none _ _)
+loop-holds c = (search needs, search needs, run-none _ _ _)
 
 mul-into : tie.Need-mul-into Inv-loop μ-loop
 mul-into c = search needs
@@ -45,13 +46,13 @@ loop-again : tie.Need-loop-again Inv-loop μ-loop
 loop-again c =
     let a = c .before .before .before .before in
     let l = c .before .before .before .loop in
-    (omega arith, simp length-set (l .inv .1), part-more (a .args .into .now) (a .args .from .now) (l .w) (l .into) (omega (arith, a .pre)) (l .inv .2))
+    (omega arith, simp length-set (l .inv .1), sum-more (a .args .into .now) (a .args .from .now) (l .w) (l .into) (omega (arith, a .pre)) (l .inv .2))
 
 same-length : tie.Need-same-length Inv-loop μ-loop
 same-length c = search needs
 
 returns : tie.Need-returns Inv-loop μ-loop
-returns c = part-all _ _ (c .before .loop .w) _ (c .before .before .pre) (c .loop-test .left) (c .before .loop .inv .2)
+returns c = sum-all _ _ (c .before .loop .w) _ (c .before .before .pre) (c .loop-test .left) (c .before .loop .inv .2)
 
 pub add-spec : {M : Type 1} → statement M
 add-spec =

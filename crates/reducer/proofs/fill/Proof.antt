@@ -1,16 +1,21 @@
 -- `fill` meets its contract: what was cleared is filled. Assumes nothing.
 use borrow.Author.Needs.{needs}
 use mathlib.Core.Path.{_∙_}
+use native.Mathlib.Omega.{arith}
 use Rattle.reducer.proofs.fill.Statement.{statement}
 use Rattle.reducer.proofs.fill.Tie as tie
 
 clear-requires : tie.Need-clear-requires
 clear-requires c κs = search needs
 
+room-requires : tie.Need-room-requires
+room-requires c κs = search needs
+
 fill-small-requires : tie.Need-fill-small-requires
-fill-small-requires c κs = let a = c .before .before .before .before .before .before .before .before in
-    let cleared = c .before .before .before .before .clear .ensures in
-    (a .pre .0, (cleared .long ∙ a .pre .1, (c .before .if1 .taken, cleared .zero-words)))
+fill-small-requires c κs =
+    let a = c .before .before .before .before .before .before .before .before .before in
+    let cleared = c .before .before .before .before .before .clear .ensures in
+    (a .pre .0, (cleared .long ∙ a .pre .1, (omega arith, cleared .zero-words)))
 
 same-length : tie.Need-same-length
 same-length c = search needs
@@ -19,9 +24,10 @@ returns : tie.Need-returns
 returns c = search needs
 
 fill-middle-requires : tie.Need-fill-middle-requires
-fill-middle-requires c κs = let a = c .before .before .before .before .before .before .before .before .before in
-    let cleared = c .before .before .before .before .before .clear .ensures in
-    (a .pre .0, (cleared .long ∙ a .pre .1, (c .before .if2 .taken, cleared .zero-words)))
+fill-middle-requires c κs =
+    let a = c .before .before .before .before .before .before .before .before .before .before in
+    let cleared = c .before .before .before .before .before .before .clear .ensures in
+    (a .pre .0, (cleared .long ∙ a .pre .1, (omega arith, cleared .zero-words)))
 
 same-length-2 : tie.Need-same-length-2
 same-length-2 c = search needs
@@ -30,8 +36,9 @@ returns-2 : tie.Need-returns-2
 returns-2 c = search needs
 
 fill-large-requires : tie.Need-fill-large-requires
-fill-large-requires c κs = let a = c .before .before .before .before .before .before .before .before .before in
-    let cleared = c .before .before .before .before .before .clear .ensures in
+fill-large-requires c κs =
+    let a = c .before .before .before .before .before .before .before .before .before .before in
+    let cleared = c .before .before .before .before .before .before .clear .ensures in
     (a .pre .0, (cleared .long ∙ a .pre .1, cleared .zero-words))
 
 same-length-3 : tie.Need-same-length-3
@@ -45,6 +52,7 @@ fill-spec =
     tie.close
     (tie.spec
     clear-requires
+    room-requires
     fill-small-requires
     same-length
     returns

@@ -3,13 +3,15 @@ use borrow.Author.Needs.{needs}
 use mathlib.Core.Path.{_≡_, refl}
 use Prim.Native.Nat.{_≤_, _-_}
 use native.Mathlib.Omega.{arith}
-use lib.ListN.{length, getD, length-set}
-use Rattle.reducer.proofs.RowWords.{Written, written-none, written-more, copy-all}
+use lib.ListN.{length, length-set}
+use Rattle.bitset.proofs.Runs.{run-none, run-more}
+use Rattle.rows.proofs.Chunks.{Written}
+use Rattle.reducer.proofs.RowWords.{row-kept}
 use Rattle.reducer.proofs.keep.Statement.{statement}
 use Rattle.reducer.proofs.keep.Tie as tie
 
 abbrev Inv-loop : tie.InvT-loop
-Inv-loop kept₀ m w words at k₀ kept k = (k ≤ w) × (length kept ≡ length kept₀) × Written at k (λ i. getD words i 0) kept₀ kept
+Inv-loop kept₀ m w words at k₀ kept k = (k ≤ w) × (length kept ≡ length kept₀) × Written w m k kept₀ words kept
 
 abbrev μ-loop : tie.MeasureT-loop
 μ-loop kept₀ m w words at k₀ kept k = w - k
@@ -18,7 +20,7 @@ mul-at : tie.Need-mul-at Inv-loop μ-loop
 mul-at c = search needs
 
 loop-holds : tie.Need-loop-holds Inv-loop μ-loop
-loop-holds c = (search needs, search needs, written-none _ _ _)
+loop-holds c = (search needs, search needs, run-none _ _ _)
 
 mul-kept : tie.Need-mul-kept Inv-loop μ-loop
 mul-kept c = search needs
@@ -44,7 +46,7 @@ loop-less c = search needs
 loop-again : tie.Need-loop-again Inv-loop μ-loop
 loop-again c = let a = c .before .before .before in
     let l = c .before .before .loop in
-    (search needs, simp length-set (l .inv .1), written-more _ (l .k) _ _ (l .kept) _ (omega (arith, a .pre .0)) refl (l .inv .2))
+    (search needs, simp length-set (l .inv .1), run-more _ _ _ (l .k) _ _ (l .kept) refl (omega (arith, a .pre .0)) refl (l .inv .2))
 
 same-length : tie.Need-same-length Inv-loop μ-loop
 same-length c = search needs
@@ -52,7 +54,7 @@ same-length c = search needs
 returns : tie.Need-returns Inv-loop μ-loop
 returns c = let a = c .before .before in
     let l = c .before .loop in
-    copy-all _ _ (l .k) _ _ _ (omega (arith, c .loop-test .left)) (a .pre .1) (a .pre .0) (l .inv .2)
+    row-kept _ _ (l .k) _ _ _ (omega (arith, c .loop-test .left)) (a .pre .1) (a .pre .0) (l .inv .2)
 
 pub keep-spec : {M : Type 1} → statement M
 keep-spec =

@@ -1,6 +1,6 @@
 -- `row_boundary` meets its contract. The first loop's invariant: the words passed are copied. The second's: the set is the boundary
 -- of the words passed. The measure of both: the words left. Assumes nothing.
-use mathlib.Core.Path.{_≡_, refl, sym, ap, subst, _∙_}
+use mathlib.Core.Path.{_≡_, refl, sym, ap, _∙_}
 use Prim.Native.Nat.{ℕ, _+_, _*_, _≤_, _<_, _-_, _^_}
 use native.Mathlib.Omega.{arith}
 use lib.ListN.{length, getD, length-set}
@@ -9,13 +9,14 @@ use Rattle.bitset.specs.Bits.{wordsFor}
 use Rattle.rows.specs.Rows.{boundaryWords, rowWidth, rowOf}
 use Rattle.rows.proofs.Members.{zeros-small}
 use Rattle.table.proofs.Records.{sized-cells-is}
-use Rattle.rows.proofs.RowWords.{Copied, copied-none, copied-more, copied-word, row-width-fits, row-ends, length-rowOf}
+use Rattle.bitset.proofs.Runs.{Run, run-none, run-more}
+use Rattle.rows.proofs.RowWords.{copied-word, row-width-fits, row-ends, length-rowOf}
 use Rattle.rows.proofs.RowAdding.{WordsAdded, no-words, one-word, all-words, word-of-live-row}
 use Rattle.rows.proofs.row_boundary.Statement.{statement}
 use Rattle.rows.proofs.row_boundary.Tie as tie
 
 abbrev Inv-loop : tie.InvT-loop
-Inv-loop t evidence row width at words₀ k₀ words k = (k ≤ width) × (length words ≡ boundaryWords) × Copied evidence at k words
+Inv-loop t evidence row width at words₀ k₀ words k = (k ≤ width) × (length words ≡ boundaryWords) × Run 0 k (λ i. getD evidence (at + i) 0) words₀ words
 
 abbrev μ-loop : tie.MeasureT-loop
 μ-loop t evidence row width at words₀ k₀ words k = width - k
@@ -49,7 +50,7 @@ mul-at : tie.Need-mul-at Inv-loop μ-loop Inv-loop2 μ-loop2
 mul-at c = omega (arith, row-here c .0, c .before .before .before .before .good .1 .0 .0)
 
 loop-holds : tie.Need-loop-holds Inv-loop μ-loop Inv-loop2 μ-loop2
-loop-holds c = (search needs, refl, copied-none _ _ _)
+loop-holds c = (search needs, refl, run-none _ _ _)
 
 add-words : tie.Need-add-words Inv-loop μ-loop Inv-loop2 μ-loop2
 add-words c = omega (arith, c .loop-test .taken, row-here (c .before .before) .0, c .before .before .before .before .before .before .good .1 .0 .0)
@@ -77,7 +78,7 @@ loop-again c =
     let l = c .before .before .loop in (
       search needs,
       simp length-set (l .inv .1),
-      copied-more _ _ (l .k) (l .words) (omega (arith, c .before .loop-test .taken, row-here (c .before .before .before) .1, l .inv .1)) (l .inv .2),
+      run-more 0 _ _ (l .k) (l .k) _ (l .words) (omega arith) (omega (arith, c .before .loop-test .taken, row-here (c .before .before .before) .1)) refl (l .inv .2),
     )
 
 loop2-holds : tie.Need-loop2-holds Inv-loop μ-loop Inv-loop2 μ-loop2
@@ -100,9 +101,7 @@ word-here c =
     let a = c .before .before .before .before .before .before .before .before .args in
     let f = c .before .before .before .before in
     let l = c .before .before .before .loop in
-    copied-word (a .t .now) (a .evidence .now) (a .row) (l .k) (l .words) (omega (arith, c .before .before .loop-test .left, width-is f))
-    (subst (λ (n : ℕ). Copied (a .evidence .now) (a .row * n) (l .k) (l .words)) (width-is f) (l .inv .2)) (c .before .loop2 .w)
-    (omega (arith, c .loop2-test .taken, width-is f))
+    copied-word (a .t .now) (a .evidence .now) (a .row) _ (l .k) _ (l .words) (width-is f) (c .before .before .loop-test .left) (l .inv .2) (c .before .loop2 .w) (c .loop2-test .taken)
 
 add-word-requires : tie.Need-add-word-requires Inv-loop μ-loop Inv-loop2 μ-loop2
 add-word-requires c κs =
