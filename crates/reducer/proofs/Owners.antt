@@ -10,7 +10,7 @@ use Rattle.homology.proofs.Marks.{by-order}
 use Rattle.bitset.specs.Bits.{IsGreatest}
 use Rattle.bitset.proofs.Greatest.{greatest-unique}
 use Rattle.table.specs.Kind.{capacity, freeMark}
-use Rattle.table.proofs.Cases.{same-or-other}
+use Rattle.counting.proofs.Cases.{same-or-other}
 use Rattle.rows.specs.Rows.{rowOf}
 use Rattle.reducer.specs.Rule.{LargestOf}
 use Rattle.reducer.specs.Work.{Bounds, Owned}
