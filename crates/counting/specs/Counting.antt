@@ -1,4 +1,4 @@
--- Counting numbers that have a property, and picking the k-th of them.
+-- Choosing by a test, counting the numbers that have a property, and picking the k-th of them.
 -- A reader must believe these definitions; nothing here is proved.
 use mathlib.Core.Bool.{Bool, true, false, _&&_, _||_, not}
 use Prim.Native.Nat.{ℕ, zero, suc, _+_}
