@@ -1,5 +1,7 @@
 /* Measures the compiled library beside the plain version: first that both agree, then rounds that take turns (library, C, library,
- * C, ..), and prints one table with the medians and the median of the ratios of one round. No timing decides anything. */
+ * C, ..). The figure of a run is the median of the ratios of one round; everything is run three times, and the table of ratios has
+ * the smallest and the largest of the three. No timing decides anything.
+ *     bench [CALL..]       all calls, or the named ones */
 #define _POSIX_C_SOURCE 199309L
 #include "plain.h"
 #include "tables.h"
@@ -9,7 +11,7 @@
 #include <string.h>
 #include <time.h>
 
-enum { ROUNDS = 301, SLICE = 100000, COPIES = 128 };
+enum { ROUNDS = 201, RUNS = 3, SLICE = 100000, COPIES = 128, CALLS = 11 };
 
 static struct piece pieces[TABLES];
 
@@ -17,10 +19,11 @@ static struct piece pieces[TABLES];
 static struct {
     const struct piece *piece;
     size_t words, row, length;
-    uint16_t copies[COPIES][64], two[2][8 * ROOM], target[8 * ROOM], cells[7], holes[7], bad;
-    int64_t chain[ROOM], boundary[ROOM];
-    uint64_t evidence[ROOM * ROW], made[ROOM * ROW], additions[7];
-    uint8_t file[FILE_ROOM], written[FILE_ROOM], yes;
+    uint16_t copies[COPIES][64], two[2][PL_RECORD * PL_ROOM], target[PL_RECORD * PL_ROOM];
+    uint16_t cells[PL_DIMENSIONS], holes[PL_DIMENSIONS], bad, cell, face, point;
+    int64_t chain[PL_ROOM], boundary[PL_ROOM], sum;
+    uint64_t evidence[PL_ROOM * PL_ROW], made[PL_ROOM * PL_ROW], additions[PL_DIMENSIONS];
+    uint8_t file[PL_LONGEST], written[PL_LONGEST], yes;
 } lent;
 
 static volatile uint32_t sink;
@@ -47,12 +50,13 @@ typedef double measure(const struct calls *s, size_t times);
     }
 
 READING(audit, audit(t, words))
-READING(loops, loops(t, words))
+READING(incidence, incidence(t, words, lent.cell, lent.face, &lent.sum))
 READING(boundary, boundary(t, words, lent.chain, n, lent.piece->dimension, lent.boundary, n))
+READING(corner, corner(t, words, lent.cell, lent.piece->dimension, &lent.point))
 READING(sheet, sheet(t, words, &lent.yes))
 READING(reduce, reduce(t, words, lent.made, n * lent.row, lent.additions))
 READING(check, check(t, words, lent.evidence, n * lent.row, lent.cells, lent.holes, &lent.bad))
-READING(put, write(t, words, lent.written, FILE_ROOM, &got))
+READING(put, write(t, words, lent.written, PL_LONGEST, &got))
 READING(get, read(lent.target, words, lent.file, lent.length))
 
 /* Cone and merge change the table, so each call of a stretch has a fresh copy; copies are made outside the measured time and are few
@@ -98,78 +102,89 @@ static size_t times_of(measure *m)
     return once > SLICE ? 1 : (size_t)(SLICE / (once + 1)) + 1;
 }
 
-/* the audit that the plain calls begin with (plain.h) */
-#ifdef SAME_LOOPS
-#define OWN_AUDIT loops
-#else
-#define OWN_AUDIT audit
-#endif
-
-/* Every call but the audit begins or ends with one; `past` is the ratio of what is left when each side's own audit, measured in the
- * same round, is taken off. */
-static void compare(const char *call, measure *m)
+/* The median ratio of one run; the medians of both sides' nanoseconds go to the standard error output. */
+static double ratio_of(const char *call, measure *m)
 {
-    static double ours[ROUNDS], theirs[ROUNDS], ratio[ROUNDS], past[ROUNDS];
-    int whole = m == audit || m == loops;
-    size_t times = times_of(m), audits = times_of(audit);
+    static double ours[ROUNDS], theirs[ROUNDS], ratio[ROUNDS];
+    size_t times = times_of(m);
     m(&plain, times);
     for (int i = 0; i < ROUNDS; i++) {
         ours[i] = m(&library, times);
         theirs[i] = m(&plain, times);
         ratio[i] = ours[i] / theirs[i];
-        if (!whole)
-            past[i] = (ours[i] - audit(&library, audits)) / (theirs[i] - OWN_AUDIT(&plain, audits));
     }
-    double a = median(ours), b = median(theirs), r = median(ratio);
-    printf("| %-8s | %-17s | %10.0f | %10.0f | %5.2f |", call, lent.piece->name, a, b, r);
-    if (whole)
-        printf("            |\n");
-    else
-        printf(" %10.2f |\n", median(past));
-    fflush(stdout);
+    double r = median(ratio);
+    fprintf(stderr, "%-9s %-17s %10.0f ns, C %10.0f ns, ratio %5.2f\n", call, lent.piece->name, median(ours), median(theirs), r);
+    return r;
 }
 
-/* Prepares chain, evidence and file of a table. */
+/* Prepares chain, evidence, file and named cells of a table: the last cell of its dimension, and that cell's last face. */
 static void take(const struct piece *t)
 {
     uint64_t state = 521288629u;
     lent.piece = t;
-    lent.words = 8 * t->n;
+    lent.words = PL_RECORD * t->n;
     lent.row = (t->n + 63) / 64;
     for (size_t c = 0; c < t->n; c++)
-        lent.chain[c] = t->words[8 * c] == t->dimension ? (int64_t)draw(&state, 2001) - 1000 : 0;
+        if (t->words[PL_RECORD * c] == t->dimension)
+            lent.cell = (uint16_t)c;
+    lent.face = t->words[PL_RECORD * lent.cell + 1 + t->dimension];
+    for (size_t c = 0; c < t->n; c++)
+        lent.chain[c] = t->words[PL_RECORD * c] == t->dimension ? (int64_t)draw(&state, 2001) - 1000 : 0;
     pl_reduce(t->words, lent.words, lent.evidence, t->n * lent.row, lent.additions);
-    pl_write(t->words, lent.words, lent.file, FILE_ROOM, &lent.length);
+    pl_write(t->words, lent.words, lent.file, PL_LONGEST, &lent.length);
 }
 
-int main(void)
+static const struct {
+    const char *name;
+    measure *measure;
+} list[CALLS] = {{"audit", audit},   {"merge", merge}, {"cone", cone},     {"incidence", incidence}, {"boundary", boundary}, {"corner", corner},
+                 {"sheet", sheet},   {"reduce", reduce}, {"check", check}, {"read", get},            {"write", put}};
+
+/* Whether a call is measured on a table: a merge where two cells are named, else on the tables with room for a cone or on the others. */
+static int asked(measure *m, const struct piece *t)
 {
-    static const struct {
-        const char *name;
-        measure *measure;
-    } list[] = {{"audit", audit}, {"loops", loops},   {"merge", merge}, {"cone", cone}, {"boundary", boundary},
-                {"sheet", sheet}, {"reduce", reduce}, {"check", check}, {"read", get},  {"write", put}};
+    return m == audit || (m == merge ? t->a != t->b : (m == cone) == t->conable);
+}
+
+static int wanted(const char *name, int count, char **names)
+{
+    for (int i = 1; i < count; i++)
+        if (!strcmp(name, names[i]))
+            return 1;
+    return count < 2;
+}
+
+int main(int count, char **names)
+{
+    static double least[CALLS][TABLES], most[CALLS][TABLES];
     fill_tables(pieces);
     if (differences(pieces))
         return 1;
+    for (int run = 0; run < RUNS; run++)
+        for (int k = 0; k < CALLS; k++)
+            for (int i = 0; i < TABLES; i++) {
+                if (!asked(list[k].measure, &pieces[i]) || !wanted(list[k].name, count, names))
+                    continue;
+                take(&pieces[i]);
+                double r = ratio_of(list[k].name, list[k].measure);
+                least[k][i] = run && least[k][i] < r ? least[k][i] : r;
+                most[k][i] = run && most[k][i] > r ? most[k][i] : r;
+            }
+    printf("\n| table |");
+    for (int k = 0; k < CALLS; k++)
+        printf(" %s |", list[k].name);
+    printf("\n|---|");
+    for (int k = 0; k < CALLS; k++)
+        printf("---|");
     for (int i = 0; i < TABLES; i++) {
-        take(&pieces[i]);
-        pl_check(pieces[i].words, lent.words, lent.evidence, pieces[i].n * lent.row, lent.cells, lent.holes, &lent.bad);
-        printf("  %-17s additions", pieces[i].name);
-        for (int p = 0; p < 7; p++)
-            printf(" %llu", (unsigned long long)lent.additions[p]);
-        printf(", holes");
-        for (int p = 0; p < 7; p++)
-            printf(" %u", lent.holes[p]);
-        printf("\n");
+        printf("\n| %s |", pieces[i].name);
+        for (int k = 0; k < CALLS; k++)
+            if (most[k][i] > 0)
+                printf(" %.2f–%.2f |", least[k][i], most[k][i]);
+            else
+                printf(" |");
     }
-    printf("\n| call     | table             | ns library |       ns C | ratio | past audit |\n|---|---|---|---|---|---|\n");
-    for (size_t k = 0; k < sizeof list / sizeof *list; k++)
-        for (int i = 0; i < TABLES; i++) {
-            measure *m = list[k].measure;
-            take(&pieces[i]);
-            if (m == audit || m == loops || (m == merge ? pieces[i].a != pieces[i].b : (m == cone) == pieces[i].conable))
-                compare(list[k].name, m);
-        }
+    printf("\n");
     return 0;
 }

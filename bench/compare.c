@@ -8,30 +8,31 @@
 
 static struct outcome left, right;
 
-enum call { AUDIT, LOOPS, CONE, MERGE, BOUNDARY, SHEET, REDUCE, CHECK, WRITE, READ, CALLS };
+enum call { AUDIT, CONE, MERGE, INCIDENCE, BOUNDARY, CORNER, SHEET, REDUCE, CHECK, WRITE, READ, CALLS };
 
-static const char *const names[CALLS] = {"audit", "loops", "cone", "merge", "boundary", "sheet", "reduce", "check", "write", "read"};
+static const char *const names[CALLS] = {"audit", "cone", "merge", "incidence", "boundary", "corner", "sheet", "reduce", "check", "write", "read"};
 
 /* What one round of calls is given. */
 struct input {
-    uint16_t words[8 * ROOM], a, b, dimension;
+    uint16_t words[PL_RECORD * PL_ROOM], a, b, dimension;
     size_t n, length, room;
-    uint64_t marks[ROW], evidence[ROOM * ROW];
-    int64_t chain[ROOM];
-    uint8_t file[FILE_ROOM];
+    uint64_t marks[PL_ROW], evidence[PL_ROOM * PL_ROW];
+    int64_t chain[PL_ROOM];
+    uint8_t file[PL_LONGEST];
 };
 
 static void one(const struct calls *s, enum call call, const struct input *in, struct outcome *out)
 {
-    size_t words = 8 * in->n, row = (in->n + 63) / 64;
+    size_t words = PL_RECORD * in->n, row = (in->n + 63) / 64;
     memset(out, 0x5A, sizeof *out);
     memcpy(out->words, in->words, sizeof in->words);
     switch (call) {
     case AUDIT: out->answer = s->audit(out->words, words); break;
-    case LOOPS: out->answer = s->loops(out->words, words); break;
     case CONE: out->answer = s->cone(out->words, words, in->marks, row, &out->apex); break;
     case MERGE: out->answer = s->merge(out->words, words, in->a, in->b, &out->kept); break;
+    case INCIDENCE: out->answer = s->incidence(out->words, words, in->a, in->b, &out->incidence); break;
     case BOUNDARY: out->answer = s->boundary(out->words, words, in->chain, in->n, in->dimension, out->boundary, in->n); break;
+    case CORNER: out->answer = s->corner(out->words, words, in->a, in->b % 8, &out->corner); break;
     case SHEET: out->answer = s->sheet(out->words, words, &out->yes); break;
     case REDUCE: out->answer = s->reduce(out->words, words, out->evidence, in->n * row, out->additions); break;
     case CHECK:
@@ -62,7 +63,7 @@ static int all(const char *table, const struct input *in, unsigned long seen[CAL
 static void ask(const struct piece *t, struct input *in)
 {
     size_t row = (t->n + 63) / 64;
-    uint64_t state = 2463534242u, counts[7];
+    uint64_t state = 2463534242u, counts[PL_DIMENSIONS];
     memset(in, 0, sizeof *in);
     memcpy(in->words, t->words, sizeof t->words);
     memcpy(in->marks, t->marks, sizeof t->marks);
@@ -70,12 +71,12 @@ static void ask(const struct piece *t, struct input *in)
     in->a = t->a;
     in->b = t->b;
     in->dimension = t->dimension;
-    in->room = FILE_ROOM;
+    in->room = PL_LONGEST;
     for (size_t c = 0; c < t->n; c++)
-        if (t->words[8 * c] == t->dimension)
+        if (t->words[PL_RECORD * c] == t->dimension)
             in->chain[c] = (int64_t)draw(&state, 2001) - 1000;
-    pl_reduce(t->words, 8 * t->n, in->evidence, t->n * row, counts);
-    pl_write(t->words, 8 * t->n, in->file, FILE_ROOM, &in->length);
+    pl_reduce(t->words, PL_RECORD * t->n, in->evidence, t->n * row, counts);
+    pl_write(t->words, PL_RECORD * t->n, in->file, PL_LONGEST, &in->length);
 }
 
 /* One random change of one of the inputs. */
@@ -84,14 +85,14 @@ static void damage(struct input *in, uint64_t *state)
     uint32_t n = (uint32_t)in->n, row = (n + 63) / 64, kind = draw(state, 10);
     uint16_t word = (uint16_t)(draw(state, 4) ? draw(state, n + 8) : PL_FREE);
     if (kind == 0)
-        in->words[draw(state, 8 * n)] = word;
+        in->words[draw(state, PL_RECORD * n)] = word;
     else if (kind == 1)
-        in->words[8 * draw(state, n)] = (uint16_t)draw(state, 9);
+        in->words[PL_RECORD * draw(state, n)] = (uint16_t)draw(state, 9);
     else if (kind == 2)
-        memset(in->words + 8 * draw(state, n), 255, 16);
+        memset(in->words + PL_RECORD * draw(state, n), 255, PL_RECORD * sizeof(uint16_t));
     else if (kind == 3 && draw(state, 2))
         for (uint32_t c = 0; c < n; c++)
-            in->marks[c / 64] |= (uint64_t)(in->words[8 * c] != PL_FREE) << c % 64;
+            in->marks[c / 64] |= (uint64_t)(in->words[PL_RECORD * c] != PL_FREE) << c % 64;
     else if (kind == 3)
         in->marks[draw(state, row)] ^= (uint64_t)1 << draw(state, 64);
     else if (kind == 4)
@@ -105,7 +106,7 @@ static void damage(struct input *in, uint64_t *state)
     else if (kind == 8)
         in->file[draw(state, (uint32_t)in->length)] ^= (uint8_t)(1 << draw(state, 8));
     else if (draw(state, 2))
-        in->room = in->length = draw(state, FILE_ROOM + 1);
+        in->room = in->length = draw(state, PL_LONGEST + 1);
     else
         in->dimension = (uint16_t)draw(state, 9);
 }
@@ -119,7 +120,7 @@ int differences(const struct piece pieces[TABLES])
     for (int i = 0; i < TABLES; i++) {
         ask(&pieces[i], &whole);
         wrong += all(pieces[i].name, &whole, seen);
-        if (plain.audit(whole.words, 8 * whole.n)) {
+        if (plain.audit(whole.words, PL_RECORD * whole.n)) {
             printf("not valid: %s\n", pieces[i].name);
             wrong++;
         }

@@ -31,10 +31,10 @@
 namespace {
 
 struct Holes {
-    uint16_t of[7];
+    uint16_t of[PL_DIMENSIONS];
 };
 
-uint64_t evidence[ROOM * ROW];
+uint64_t evidence[PL_ROOM * PL_ROW];
 
 size_t evidence_words(const piece &t)
 {
@@ -44,28 +44,28 @@ size_t evidence_words(const piece &t)
 // Evidence alone: no hole numbers are answered.
 bool by_reducer(const piece &t, Holes &)
 {
-    uint64_t additions[7];
-    return bt_reduce(t.words, 8 * t.n, evidence, evidence_words(t), additions) == 0;
+    uint64_t additions[PL_DIMENSIONS];
+    return bt_reduce(t.words, PL_RECORD * t.n, evidence, evidence_words(t), additions) == 0;
 }
 
 bool by_library(const piece &t, Holes &out)
 {
-    uint16_t cells[7], row;
-    return by_reducer(t, out) && bt_check(t.words, 8 * t.n, evidence, evidence_words(t), cells, out.of, &row) == 0;
+    uint16_t cells[PL_DIMENSIONS], row;
+    return by_reducer(t, out) && bt_check(t.words, PL_RECORD * t.n, evidence, evidence_words(t), cells, out.of, &row) == 0;
 }
 
 // Live cells of each dimension; where place is given, each cell's place among those of its dimension.
-[[maybe_unused]] void count(const piece &t, uint16_t cells[8], uint16_t *place)
+[[maybe_unused]] void count(const piece &t, uint16_t cells[PL_DIMENSIONS + 1], uint16_t *place)
 {
-    std::memset(cells, 0, 8 * sizeof *cells);
+    std::memset(cells, 0, (PL_DIMENSIONS + 1) * sizeof *cells);
     for (size_t c = 0; c < t.n; c++)
-        if (t.words[8 * c] != 65535)
-            place[c] = cells[t.words[8 * c]]++;
+        if (t.words[PL_RECORD * c] != PL_FREE)
+            place[c] = cells[t.words[PL_RECORD * c]]++;
 }
 
-[[maybe_unused]] void from_ranks(const uint16_t cells[8], const long ranks[8], Holes &out)
+[[maybe_unused]] void from_ranks(const uint16_t cells[PL_DIMENSIONS + 1], const long ranks[PL_DIMENSIONS + 1], Holes &out)
 {
-    for (int p = 0; p < 7; p++)
+    for (int p = 0; p < PL_DIMENSIONS; p++)
         out.of[p] = (uint16_t)(cells[p] - ranks[p] - ranks[p + 1]);
 }
 
@@ -73,16 +73,16 @@ bool by_library(const piece &t, Holes &out)
 bool by_pari(const piece &t, Holes &out)
 {
     pari_sp before = avma;
-    uint16_t cells[8], place[ROOM];
-    long ranks[8] = {0};
+    uint16_t cells[PL_DIMENSIONS + 1], place[PL_ROOM];
+    long ranks[PL_DIMENSIONS + 1] = {0};
     count(t, cells, place);
-    for (int p = 1; p < 7; p++) {
+    for (int p = 1; p < PL_DIMENSIONS; p++) {
         if (!cells[p])
             continue;
         GEN m = zero_F2m_copy(cells[p - 1], cells[p]);
         for (size_t c = 0; c < t.n; c++)
-            for (int j = 0; t.words[8 * c] == p && j <= p; j++)
-                F2v_flip(gel(m, place[c] + 1), place[t.words[8 * c + 1 + j]] + 1);
+            for (int j = 0; t.words[PL_RECORD * c] == p && j <= p; j++)
+                F2v_flip(gel(m, place[c] + 1), place[t.words[PL_RECORD * c + 1 + j]] + 1);
         ranks[p] = F2m_rank(m);
     }
     from_ranks(cells, ranks, out);
@@ -96,28 +96,28 @@ bool by_phat(const piece &t, Holes &out)
 {
     phat::boundary_matrix<phat::bit_tree_pivot_column> m;
     phat::persistence_pairs pairs;
-    uint16_t cells[8], place[ROOM];
-    long ranks[8] = {0};
+    uint16_t cells[PL_DIMENSIONS + 1], place[PL_ROOM];
+    long ranks[PL_DIMENSIONS + 1] = {0};
     std::vector<phat::index> column;
     count(t, cells, place);
     m.set_num_cols((phat::index)t.n);
     for (size_t c = 0; c < t.n; c++) {
-        unsigned p = t.words[8 * c];
+        unsigned p = t.words[PL_RECORD * c];
         column.clear();
-        for (unsigned j = 0; p && p != 65535 && j <= p; j++) {
-            phat::index f = t.words[8 * c + 1 + j];
+        for (unsigned j = 0; p && p != PL_FREE && j <= p; j++) {
+            phat::index f = t.words[PL_RECORD * c + 1 + j];
             auto at = std::lower_bound(column.begin(), column.end(), f);
             if (at != column.end() && *at == f)
                 column.erase(at);
             else
                 column.insert(at, f);
         }
-        m.set_dim((phat::index)c, p == 65535 ? 0 : (phat::dimension)p);
+        m.set_dim((phat::index)c, p == PL_FREE ? 0 : (phat::dimension)p);
         m.set_col((phat::index)c, column);
     }
     phat::compute_persistence_pairs<phat::twist_reduction>(pairs, m);
     for (phat::index i = 0; i < pairs.get_num_pairs(); i++)
-        ranks[t.words[8 * pairs.get_pair(i).second]]++;
+        ranks[t.words[PL_RECORD * pairs.get_pair(i).second]]++;
     from_ranks(cells, ranks, out);
     return true;
 }
@@ -130,17 +130,17 @@ bool by_gudhi(const piece &t, Holes &out)
     using Tree = Gudhi::Simplex_tree<>;
     Tree tree;
     for (size_t c = 0; c < t.n; c++) {
-        unsigned p = t.words[8 * c];
-        if (p == 65535)
+        unsigned p = t.words[PL_RECORD * c];
+        if (p == PL_FREE)
             continue;
         std::vector<int> corners;
         size_t at = c;
         for (unsigned k = p; k; k--) {
             size_t last = at; // corner k is reached through face 0 again and again; then face k drops it
             for (unsigned q = k; q; q--)
-                last = t.words[8 * last + 1];
+                last = t.words[PL_RECORD * last + 1];
             corners.push_back((int)last);
-            at = t.words[8 * at + 1 + k];
+            at = t.words[PL_RECORD * at + 1 + k];
         }
         corners.push_back((int)at);
         std::sort(corners.begin(), corners.end());
@@ -150,7 +150,7 @@ bool by_gudhi(const piece &t, Holes &out)
     Gudhi::persistent_cohomology::Persistent_cohomology<Tree, Gudhi::persistent_cohomology::Field_Zp> holes(tree, true);
     holes.init_coefficients(2);
     holes.compute_persistent_cohomology();
-    for (int p = 0; p < 7; p++)
+    for (int p = 0; p < PL_DIMENSIONS; p++)
         out.of[p] = (uint16_t)holes.betti_number(p);
     return true;
 }

@@ -13,23 +13,23 @@ static inline int largest(const uint64_t *set, int w)
 }
 
 /* The reducer for rows of w words, a constant where it matters. Boundaries of finished rows are kept under their largest cell. */
-static inline void reduce(const uint16_t *restrict t, size_t n, size_t w, uint64_t *restrict evidence, uint64_t *restrict additions)
+static inline __attribute__((always_inline)) void reduce(const uint16_t *restrict t, size_t n, size_t w, uint64_t *restrict evidence, uint64_t *restrict additions)
 {
-    uint64_t kept[PL_ROOM][8];
+    uint64_t kept[PL_ROOM][PL_ROW];
     uint16_t owner[PL_ROOM];
     memset(owner, 255, sizeof owner);
     memset(evidence, 0, n * w * sizeof *evidence);
     for (size_t c = 0; c < n; c++) {
-        unsigned p = t[8 * c];
+        unsigned p = t[PL_RECORD * c];
         if (p == PL_FREE)
             continue;
         uint64_t *row = evidence + c * w;
         row[c / 64] = (uint64_t)1 << c % 64;
         if (p == 0)
             continue;
-        uint64_t b[8] = {0}, sum[8] = {0}, made = 0;
+        uint64_t b[PL_ROW] = {0}, sum[PL_ROW] = {0}, made = 0;
         for (unsigned j = 0; j <= p; j++)
-            b[t[8 * c + 1 + j] / 64] ^= (uint64_t)1 << t[8 * c + 1 + j] % 64;
+            b[t[PL_RECORD * c + 1 + j] / 64] ^= (uint64_t)1 << t[PL_RECORD * c + 1 + j] % 64;
         int top = largest(b, (int)w - 1);
         while (top >= 0 && owner[top] != PL_FREE) {
             const uint64_t *other = evidence + owner[top] * w;
@@ -53,14 +53,14 @@ static inline void reduce(const uint16_t *restrict t, size_t n, size_t w, uint64
 uint32_t pl_reduce(const uint16_t *restrict t, size_t words, uint64_t *restrict evidence, size_t evidence_words,
                    uint64_t *restrict additions)
 {
-    size_t n = words / 8, w = (n + 63) / 64;
+    size_t n = words / PL_RECORD, w = (n + 63) / 64;
     if (!pl_length(words) || evidence_words != n * w)
         return 1;
-    if (pl_valid(t, words))
+    if (pl_audit(t, words))
         return 2;
-    memset(additions, 0, 7 * sizeof *additions);
-    if (w == 8)
-        reduce(t, n, 8, evidence, additions);
+    memset(additions, 0, PL_DIMENSIONS * sizeof *additions);
+    if (w == PL_ROW)
+        reduce(t, n, PL_ROW, evidence, additions);
     else
         reduce(t, n, w, evidence, additions);
     return 0;
@@ -69,15 +69,15 @@ uint32_t pl_reduce(const uint16_t *restrict t, size_t words, uint64_t *restrict 
 uint32_t pl_check(const uint16_t *restrict t, size_t words, const uint64_t *restrict evidence, size_t evidence_words,
                   uint16_t *restrict cells, uint16_t *restrict holes, uint16_t *restrict row)
 {
-    size_t n = words / 8, w = (n + 63) / 64;
+    size_t n = words / PL_RECORD, w = (n + 63) / 64;
     if (!pl_length(words) || evidence_words != n * w)
         return 1;
-    if (pl_valid(t, words))
+    if (pl_audit(t, words))
         return 2;
-    uint64_t live[7][8] = {{0}}, used[8] = {0};
-    uint16_t count[7] = {0}, rank[8] = {0};
+    uint64_t live[PL_DIMENSIONS][PL_ROW] = {{0}}, used[PL_ROW] = {0};
+    uint16_t count[PL_DIMENSIONS] = {0}, rank[PL_DIMENSIONS + 1] = {0};
     for (size_t c = 0; c < n; c++) {
-        unsigned p = t[8 * c];
+        unsigned p = t[PL_RECORD * c];
         if (p != PL_FREE) {
             live[p][c / 64] |= (uint64_t)1 << c % 64;
             count[p]++;
@@ -85,7 +85,7 @@ uint32_t pl_check(const uint16_t *restrict t, size_t words, const uint64_t *rest
     }
     for (size_t c = 0; c < n; c++) {
         const uint64_t *set = evidence + c * w;
-        unsigned p = t[8 * c];
+        unsigned p = t[PL_RECORD * c];
         uint64_t stray = 0;
         if (p == PL_FREE) {
             for (size_t k = 0; k < w; k++)
@@ -103,10 +103,10 @@ uint32_t pl_check(const uint16_t *restrict t, size_t words, const uint64_t *rest
         }
         if (p == PL_FREE || p == 0)
             continue;
-        uint64_t b[8] = {0};
+        uint64_t b[PL_ROW] = {0};
         for (size_t k = 0; k <= c / 64; k++)
             for (uint64_t bits = set[k]; bits; bits &= bits - 1) {
-                const uint16_t *face = t + 8 * (64 * k + (size_t)__builtin_ctzll(bits)) + 1;
+                const uint16_t *face = t + PL_RECORD * (64 * k + (size_t)__builtin_ctzll(bits)) + 1;
                 for (unsigned j = 0; j <= p; j++)
                     b[face[j] / 64] ^= (uint64_t)1 << face[j] % 64;
             }
@@ -120,7 +120,7 @@ uint32_t pl_check(const uint16_t *restrict t, size_t words, const uint64_t *rest
         used[top / 64] |= (uint64_t)1 << top % 64;
         rank[p]++;
     }
-    for (unsigned p = 0; p < 7; p++) {
+    for (unsigned p = 0; p < PL_DIMENSIONS; p++) {
         cells[p] = count[p];
         holes[p] = (uint16_t)(count[p] - rank[p] - rank[p + 1]);
     }
@@ -148,26 +148,26 @@ uint32_t pl_write(const uint16_t *restrict t, size_t words, uint8_t *restrict ta
 {
     if (!pl_length(words))
         return 1;
-    if (pl_valid(t, words))
+    if (pl_audit(t, words))
         return 2;
-    size_t n = words / 8, count[7] = {0}, at[7], end = 44;
+    size_t n = words / PL_RECORD, count[PL_DIMENSIONS] = {0}, at[PL_DIMENSIONS], end = PL_CONTENTS;
     for (size_t c = 0; c < n; c++)
-        if (t[8 * c] != PL_FREE)
-            count[t[8 * c]]++;
-    for (unsigned p = 0; p < 7; p++) {
+        if (t[PL_RECORD * c] != PL_FREE)
+            count[t[PL_RECORD * c]]++;
+    for (unsigned p = 0; p < PL_DIMENSIONS; p++) {
         at[p] = end;
         end += count[p] * entry(p);
     }
     if (target_len < end)
         return 9;
     put2(target, (unsigned)n);
-    for (unsigned p = 0; p < 7; p++) {
+    for (unsigned p = 0; p < PL_DIMENSIONS; p++) {
         put2(target + 2 + 6 * p, (unsigned)count[p]);
         put2(target + 4 + 6 * p, (unsigned)at[p]);
         put2(target + 6 + 6 * p, 0);
     }
     for (size_t c = 0; c < n; c++) {
-        const uint16_t *r = t + 8 * c;
+        const uint16_t *r = t + PL_RECORD * c;
         unsigned p = r[0];
         if (p == PL_FREE)
             continue;
@@ -185,11 +185,11 @@ uint32_t pl_read(uint16_t *restrict t, size_t words, const uint8_t *restrict fil
 {
     if (!pl_length(words))
         return 1;
-    size_t n = words / 8, end = 44;
+    size_t n = words / PL_RECORD, end = PL_CONTENTS;
     memset(t, 255, words * sizeof *t);
-    if (file_len < 44 || get2(file) != n)
+    if (file_len < PL_CONTENTS || get2(file) != n)
         return 15;
-    for (unsigned p = 0; p < 7; p++) {
+    for (unsigned p = 0; p < PL_DIMENSIONS; p++) {
         const uint8_t *head = file + 2 + 6 * p;
         if ((get2(head + 2) | (size_t)get2(head + 4) << 16) != end)
             return 15;
@@ -198,23 +198,23 @@ uint32_t pl_read(uint16_t *restrict t, size_t words, const uint8_t *restrict fil
     if (file_len != end)
         return 15;
     uint32_t refusal = 0;
-    const uint8_t *in = file + 44;
-    for (unsigned p = 0; p < 7 && !refusal; p++) {
+    const uint8_t *in = file + PL_CONTENTS;
+    for (unsigned p = 0; p < PL_DIMENSIONS && !refusal; p++) {
         long before = -1;
         for (size_t i = get2(file + 2 + 6 * p); i; i--) {
             unsigned c = get2(in);
-            if (c >= n || (long)c <= before || t[8 * c] != PL_FREE) {
+            if (c >= n || (long)c <= before || t[PL_RECORD * c] != PL_FREE) {
                 refusal = 16;
                 break;
             }
             before = (long)c;
-            t[8 * c] = (uint16_t)p;
+            t[PL_RECORD * c] = (uint16_t)p;
             for (unsigned j = 0; p && j <= p; j++)
-                t[8 * c + 1 + j] = (uint16_t)get2(in + 2 + 2 * j);
+                t[PL_RECORD * c + 1 + j] = (uint16_t)get2(in + 2 + 2 * j);
             in += entry(p);
         }
     }
-    if (!refusal && pl_valid(t, words))
+    if (!refusal && pl_audit(t, words))
         refusal = 2;
     if (refusal)
         memset(t, 255, words * sizeof *t);

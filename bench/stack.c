@@ -13,7 +13,7 @@
 enum { STACK = 1 << 20, CALLS = 9 };
 
 static const char *const names[CALLS] = {"audit", "merge", "cone", "boundary", "sheet", "reduce", "check", "read", "write"};
-static const size_t rooms[3] = {8, 64, 512};
+static const size_t rooms[3] = {8, 64, PL_ROOM};
 
 static struct piece pieces[TABLES];
 static uint8_t *stack;
@@ -22,10 +22,10 @@ static struct {
     const struct calls *side;
     int call;
     size_t n, row, length, deep;
-    uint16_t words[8 * ROOM], a, b, dimension, number, cells[7], holes[7];
-    uint64_t marks[ROW], evidence[ROOM * ROW], made[ROOM * ROW], additions[7];
-    int64_t chain[ROOM], boundary[ROOM];
-    uint8_t file[FILE_ROOM], written[FILE_ROOM], yes;
+    uint16_t words[PL_RECORD * PL_ROOM], a, b, dimension, number, cells[PL_DIMENSIONS], holes[PL_DIMENSIONS];
+    uint64_t marks[PL_ROW], evidence[PL_ROOM * PL_ROW], made[PL_ROOM * PL_ROW], additions[PL_DIMENSIONS];
+    int64_t chain[PL_ROOM], boundary[PL_ROOM];
+    uint8_t file[PL_LONGEST], written[PL_LONGEST], yes;
     volatile uint32_t answer;
 } work;
 
@@ -39,7 +39,7 @@ static __attribute__((noinline)) void call(void)
 {
     const struct calls *s = work.side;
     uint16_t *t = work.words;
-    size_t words = 8 * work.n;
+    size_t words = PL_RECORD * work.n;
     switch (work.call) {
     case 0: work.answer = s->audit(t, words); break;
     case 1: work.answer = s->merge(t, words, work.a, work.b, &work.number); break;
@@ -49,7 +49,7 @@ static __attribute__((noinline)) void call(void)
     case 5: work.answer = s->reduce(t, words, work.made, work.n * work.row, work.additions); break;
     case 6: work.answer = s->check(t, words, work.evidence, work.n * work.row, work.cells, work.holes, &work.number); break;
     case 7: work.answer = s->read(t, words, work.file, work.length); break;
-    case 8: work.answer = s->write(t, words, work.written, FILE_ROOM, &work.length); break;
+    case 8: work.answer = s->write(t, words, work.written, PL_LONGEST, &work.length); break;
     default: work.answer = 0;
     }
 }
@@ -83,9 +83,9 @@ static size_t depth(const struct calls *side, int which, const struct piece *t)
     memcpy(work.words, t->words, sizeof t->words);
     memcpy(work.marks, t->marks, sizeof t->marks);
     for (size_t c = 0; c < t->n; c++)
-        work.chain[c] = t->words[8 * c] == t->dimension;
-    pl_reduce(work.words, 8 * t->n, work.evidence, t->n * work.row, work.additions);
-    pl_write(work.words, 8 * t->n, work.file, FILE_ROOM, &work.length);
+        work.chain[c] = t->words[PL_RECORD * c] == t->dimension;
+    pl_reduce(work.words, PL_RECORD * t->n, work.evidence, t->n * work.row, work.additions);
+    pl_write(work.words, PL_RECORD * t->n, work.file, PL_LONGEST, &work.length);
     memset(stack, 0xC5, STACK);
     pthread_attr_init(&attr);
     if (pthread_attr_setstack(&attr, stack, STACK) || pthread_create(&thread, &attr, measure, NULL))

@@ -5,10 +5,10 @@
 
 #include <string.h>
 
-const struct calls library = {bt_audit, bt_audit,  bt_cone,  bt_merge, bt_boundary,
-                              bt_sheet, bt_reduce, bt_check, bt_write, bt_read};
-const struct calls plain = {pl_audit, pl_audit_loops, pl_cone,  pl_merge, pl_boundary,
-                            pl_sheet, pl_reduce,      pl_check, pl_write, pl_read};
+const struct calls library = {bt_audit,  bt_cone,   bt_merge, bt_incidence, bt_boundary, bt_corner,
+                              bt_sheet,  bt_reduce, bt_check, bt_write,     bt_read};
+const struct calls plain = {pl_audit,  pl_cone,   pl_merge, pl_incidence, pl_boundary, pl_corner,
+                            pl_sheet,  pl_reduce, pl_check, pl_write,     pl_read};
 
 uint32_t draw(uint64_t *state, uint32_t limit)
 {
@@ -31,15 +31,15 @@ static struct piece *begin(struct piece *t, const char *name, size_t n, uint16_t
 /* Writes cell c with the given faces. */
 static void cell(struct piece *t, unsigned c, unsigned p, const unsigned *faces)
 {
-    t->words[8 * c] = (uint16_t)p;
+    t->words[PL_RECORD * c] = (uint16_t)p;
     for (unsigned j = 0; p && j <= p; j++)
-        t->words[8 * c + 1 + j] = (uint16_t)faces[j];
+        t->words[PL_RECORD * c + 1 + j] = (uint16_t)faces[j];
 }
 
 /* Cell c of dimension p, all its faces the same cell. */
 static void repeated(struct piece *t, unsigned c, unsigned p, unsigned face)
 {
-    unsigned faces[7] = {face, face, face, face, face, face, face};
+    unsigned faces[PL_DIMENSIONS] = {face, face, face, face, face, face, face};
     cell(t, c, p, faces);
 }
 
@@ -81,12 +81,12 @@ static void cones(struct piece *t, unsigned count)
     unsigned made = 0;
     for (unsigned p = 0; p < 6; p++) {
         marking(t, made);
-        pl_cone(t->words, 8 * t->n, t->marks, (t->n + 63) / 64, &apex);
+        pl_cone(t->words, PL_RECORD * t->n, t->marks, (t->n + 63) / 64, &apex);
         made = 2 * made + 1;
     }
     marking(t, made);
     for (unsigned i = 0; i < count; i++)
-        pl_cone(t->words, 8 * t->n, t->marks, (t->n + 63) / 64, &apex);
+        pl_cone(t->words, PL_RECORD * t->n, t->marks, (t->n + 63) / 64, &apex);
 }
 
 /* Points 0 to k; a star from point k, the highest, to k-1, k-2, .. 0; the rest of the table repeats the last edge. The i-th edge of
@@ -108,7 +108,7 @@ static void drawn(struct piece *t, unsigned p, unsigned low)
     for (unsigned c = p - 1; c < p - 1 + low; c++)
         repeated(t, c, p - 1, p - 2);
     for (unsigned c = p - 1 + low; c < t->n; c++) {
-        unsigned faces[7];
+        unsigned faces[PL_DIMENSIONS];
         for (unsigned j = 0; j <= p; j++)
             faces[j] = p - 1 + draw(&state, low);
         cell(t, c, p, faces);
@@ -117,38 +117,38 @@ static void drawn(struct piece *t, unsigned p, unsigned low)
 
 void fill_tables(struct piece pieces[TABLES])
 {
-    struct piece *t = begin(&pieces[0], "torus, 510 cells", 512, 2);
+    struct piece *t = begin(&pieces[0], "torus, 510 cells", PL_ROOM, 2);
     torus(t, 17, 5);
     merging(t, 0, 84);
 
-    t = begin(&pieces[1], "cones, 512 cells", 512, 3);
+    t = begin(&pieces[1], "cones, 512 cells", PL_ROOM, 3);
     cones(t, 7);
     cell(t, 511, 0, NULL);
     merging(t, 63, 127);
     marking(t, 0);
 
-    t = begin(&pieces[2], "506 six-cells", 512, 6);
+    t = begin(&pieces[2], "506 six-cells", PL_ROOM, 6);
     drawn(t, 6, 1);
     merging(t, 6, 511);
 
-    t = begin(&pieces[3], "drawn triangles", 512, 2);
+    t = begin(&pieces[3], "drawn triangles", PL_ROOM, 2);
     drawn(t, 2, 170);
     merging(t, 1, 170);
 
-    t = begin(&pieces[4], "dimension 5 and 6", 512, 6);
+    t = begin(&pieces[4], "dimension 5 and 6", PL_ROOM, 6);
     drawn(t, 6, 170);
     merging(t, 5, 174);
 
-    t = begin(&pieces[5], "worst star", 512, 1);
+    t = begin(&pieces[5], "worst star", PL_ROOM, 1);
     star(t, 170);
     merging(t, 400, 511);
 
-    t = begin(&pieces[6], "torus, 252 cells", 512, 2);
+    t = begin(&pieces[6], "torus, 252 cells", PL_ROOM, 2);
     torus(t, 7, 6);
     marking(t, 252);
     t->conable = 1;
 
-    t = begin(&pieces[7], "cones, 447 cells", 512, 6);
+    t = begin(&pieces[7], "cones, 447 cells", PL_ROOM, 6);
     cones(t, 6);
     t->conable = 1;
 

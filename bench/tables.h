@@ -2,6 +2,8 @@
 #ifndef TABLES_H
 #define TABLES_H
 
+#include "plain.h"
+
 #include <stddef.h>
 #include <stdint.h>
 
@@ -9,17 +11,17 @@
 extern "C" {
 #endif
 
-enum { ROOM = 512, ROW = 8, TABLES = 10, FILE_ROOM = 8236 };
+enum { TABLES = 10 };
 
 /* A table of n records, and what the calls on it are asked: the chain's dimension, the two cells to merge (equal ones name no
  * merge) and the marks for a cone (conable says whether there is room for it). */
 struct piece {
     const char *name;
     size_t n;
-    uint16_t words[8 * ROOM];
+    uint16_t words[PL_RECORD * PL_ROOM];
     uint16_t dimension, a, b;
     int conable;
-    uint64_t marks[ROW];
+    uint64_t marks[PL_ROW];
 };
 
 /* Fills the list of tables; the same at every run. */
@@ -30,10 +32,11 @@ uint32_t draw(uint64_t *state, uint32_t limit);
 
 struct calls {
     uint32_t (*audit)(const uint16_t *, size_t);
-    uint32_t (*loops)(const uint16_t *, size_t); /* the audit once more; in C by the rules' own loops */
     uint32_t (*cone)(uint16_t *, size_t, const uint64_t *, size_t, uint16_t *);
     uint32_t (*merge)(uint16_t *, size_t, uint16_t, uint16_t, uint16_t *);
+    uint32_t (*incidence)(const uint16_t *, size_t, uint16_t, uint16_t, int64_t *);
     uint32_t (*boundary)(const uint16_t *, size_t, const int64_t *, size_t, uint16_t, int64_t *, size_t);
+    uint32_t (*corner)(const uint16_t *, size_t, uint16_t, uint16_t, uint16_t *);
     uint32_t (*sheet)(const uint16_t *, size_t, uint8_t *);
     uint32_t (*reduce)(const uint16_t *, size_t, uint64_t *, size_t, uint64_t *);
     uint32_t (*check)(const uint16_t *, size_t, const uint64_t *, size_t, uint16_t *, uint16_t *, uint16_t *);
@@ -46,10 +49,10 @@ extern const struct calls library, plain;
 /* Everything that a call may leave: answer, values, lent buffers. Filled with a fixed byte before the call. */
 struct outcome {
     uint32_t answer;
-    uint16_t words[8 * ROOM], kept, apex, cells[7], holes[7], row;
-    int64_t boundary[ROOM];
-    uint64_t evidence[ROOM * ROW], additions[7];
-    uint8_t yes, file[FILE_ROOM + 8];
+    uint16_t words[PL_RECORD * PL_ROOM], kept, apex, corner, cells[PL_DIMENSIONS], holes[PL_DIMENSIONS], row;
+    int64_t boundary[PL_ROOM], incidence;
+    uint64_t evidence[PL_ROOM * PL_ROW], additions[PL_DIMENSIONS];
+    uint8_t yes, file[PL_LONGEST + 8];
     size_t written;
 };
 

@@ -12,9 +12,11 @@
  *    7 marks are not closed                 15 the file's contents or length are wrong
  *    8 a marked cell has dimension 6        16 a body number is not below N, not rising, or used twice
  *
- * What a pointer for a value refers to is written on acceptance alone. A refusal changes nothing that was lent, but for bt_read.
- * Lengths are counted in elements. Buffers of one call must not overlap. A pointer is never null; where a length is 0 it may point
- * anywhere. There is no allocation and no global state: calls on different tables may run on different threads at the same time.
+ * What a pointer for a value refers to is written on acceptance alone, but for *row of bt_check, which is written with 13 and 14 alone.
+ * A refusal changes nothing else that was lent, but for bt_read, which refused with anything but 1 leaves every word 65535.
+ * Lengths are counted in elements. Buffers of one call must not overlap. Where a length is 0 the pointer may be null or point anywhere:
+ * a buffer of length 0 is never looked into. A pointer for a value is never null. There is no allocation and no global state: calls on
+ * different tables may run on different threads at the same time.
  */
 #ifndef BUMBLETURF_H
 #define BUMBLETURF_H

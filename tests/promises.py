@@ -18,8 +18,13 @@ def declares(text, path, name):
     word = re.escape(name)
     if path.endswith(".antt"):
         pattern = r"^\s*((unfoldable|abbrev|pub|record|data|module|infixl|infixr|ruleset)\s+)*" + word + r"(\s|$)"
+    elif path.endswith((".h", ".c", ".cpp")):
+        # a C declaration or definition: a type before the name, at the start of a line
+        pattern = r"^(static |extern |const |inline )*\w[\w *]*[ *]" + word + r"\s*\(|^#define " + word + r"\b|^(enum|struct) " + word + r"\b"
+    elif path.endswith(".sh"):
+        pattern = r"^" + word + r"\s*\(\)"
     else:
-        pattern = r"\b(fn|struct|enum|const|impl|static|type|def)\s+" + word + r"\b|\b" + word + r"\s*\("
+        pattern = r"\b(fn|struct|enum|const|static|type|def|mod)\s+" + word + r"\b"
     return re.search(pattern, text, re.M) is not None
 
 

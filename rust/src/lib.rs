@@ -1,7 +1,8 @@
 //! Bumbleturf for Rust: safe calls of the proved kernel for sketches of parts.
 //!
 //! A [`Table`] owns or borrows 8·N words of 16 bits, N from 1 to 512. Every call takes any input whatever: a damaged table, a short buffer
-//! or a wrong number is answered with a [`Refusal`], and a refused call changes nothing, but for [`Table::read`].
+//! or a wrong number is answered with a [`Refusal`], and a refused call changes nothing, but for [`Table::read`], which refused with
+//! anything but 1 leaves every word [`FREE`].
 //!
 //! ```
 //! use bumbleturf::Table;
@@ -19,7 +20,7 @@ mod refusal;
 mod table;
 
 pub use refusal::Refusal;
-pub use table::{evidence_words, mark_words, Count, Table, CAPACITY, FILE_BYTES, FREE, RECORD_WORDS, TOP_DIMENSION};
+pub use table::{evidence_words, mark_words, Count, Table, CAPACITY, DIMENSIONS, FILE_BYTES, FREE, RECORD_WORDS, TOP_DIMENSION};
 
 #[cfg(test)]
 mod tests;

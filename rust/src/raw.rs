@@ -1,5 +1,7 @@
 //! The C names, as include/bumbleturf.h declares them.
 
+use crate::DIMENSIONS;
+
 extern "C" {
     pub fn bt_empty(table: *mut u16, words: usize) -> u32;
     pub fn bt_audit(table: *const u16, words: usize) -> u32;
@@ -17,14 +19,14 @@ extern "C" {
     ) -> u32;
     pub fn bt_corner(table: *const u16, words: usize, cell: u16, k: u16, corner: *mut u16) -> u32;
     pub fn bt_sheet(table: *const u16, words: usize, yes: *mut u8) -> u32;
-    pub fn bt_reduce(table: *const u16, words: usize, evidence: *mut u64, evidence_words: usize, additions: *mut [u64; 7]) -> u32;
+    pub fn bt_reduce(table: *const u16, words: usize, evidence: *mut u64, evidence_words: usize, additions: *mut [u64; DIMENSIONS]) -> u32;
     pub fn bt_check(
         table: *const u16,
         words: usize,
         evidence: *const u64,
         evidence_words: usize,
-        cells: *mut [u16; 7],
-        holes: *mut [u16; 7],
+        cells: *mut [u16; DIMENSIONS],
+        holes: *mut [u16; DIMENSIONS],
         row: *mut u16,
     ) -> u32;
     pub fn bt_write(table: *const u16, words: usize, target: *mut u8, target_len: usize, written: *mut usize) -> u32;

@@ -15,21 +15,21 @@ pub enum Refusal {
     /// 4: a merge names one cell twice.
     SameCell,
     /// 5: a merge of unequal dimensions, or an incidence where p and p−1 do not fit.
-    Dimensions,
+    DimensionsDiffer,
     /// 6: a merge of cells whose face lists differ.
     FacesDiffer,
     /// 7: a face of a marked cell is not marked.
     NotClosed,
     /// 8: a marked cell has dimension 6.
-    TopDimension,
+    TopMarked,
     /// 9: fewer free records than marks + 1, or the writer's target is shorter than the file.
     NoRoom,
     /// 10: a coefficient outside ±2^40.
-    Coefficient,
+    TooLarge,
     /// 11: a coefficient other than zero at a number that is no live p-cell.
-    OffChain,
+    Misplaced,
     /// 12: a dimension above 6, or a corner index above p.
-    Index,
+    NoSuchPlace,
     /// 13: rule A of the evidence is broken, first in this row.
     RuleA {
         /// The first row at fault.
@@ -41,9 +41,9 @@ pub enum Refusal {
         row: u16,
     },
     /// 15: the file has under 44 bytes, an N that is not the table's, or a wrong offset or length.
-    Contents,
+    BadContents,
     /// 16: a body number of the file is not below N, not rising in its body, or used in a lower body.
-    BodyNumber,
+    BadNumber,
 }
 
 impl Refusal {
@@ -54,18 +54,18 @@ impl Refusal {
             Refusal::Invalid => 2,
             Refusal::NotLive => 3,
             Refusal::SameCell => 4,
-            Refusal::Dimensions => 5,
+            Refusal::DimensionsDiffer => 5,
             Refusal::FacesDiffer => 6,
             Refusal::NotClosed => 7,
-            Refusal::TopDimension => 8,
+            Refusal::TopMarked => 8,
             Refusal::NoRoom => 9,
-            Refusal::Coefficient => 10,
-            Refusal::OffChain => 11,
-            Refusal::Index => 12,
+            Refusal::TooLarge => 10,
+            Refusal::Misplaced => 11,
+            Refusal::NoSuchPlace => 12,
             Refusal::RuleA { .. } => 13,
             Refusal::RuleB { .. } => 14,
-            Refusal::Contents => 15,
-            Refusal::BodyNumber => 16,
+            Refusal::BadContents => 15,
+            Refusal::BadNumber => 16,
         }
     }
 
@@ -77,18 +77,18 @@ impl Refusal {
             2 => Refusal::Invalid,
             3 => Refusal::NotLive,
             4 => Refusal::SameCell,
-            5 => Refusal::Dimensions,
+            5 => Refusal::DimensionsDiffer,
             6 => Refusal::FacesDiffer,
             7 => Refusal::NotClosed,
-            8 => Refusal::TopDimension,
+            8 => Refusal::TopMarked,
             9 => Refusal::NoRoom,
-            10 => Refusal::Coefficient,
-            11 => Refusal::OffChain,
-            12 => Refusal::Index,
+            10 => Refusal::TooLarge,
+            11 => Refusal::Misplaced,
+            12 => Refusal::NoSuchPlace,
             13 => Refusal::RuleA { row },
             14 => Refusal::RuleB { row },
-            15 => Refusal::Contents,
-            16 => Refusal::BodyNumber,
+            15 => Refusal::BadContents,
+            16 => Refusal::BadNumber,
             // Only another archive than the one this crate was written for can answer so.
             _ => panic!("the linked bumbleturf archive answered {number}, which is no refusal of this version"),
         })
@@ -102,18 +102,18 @@ impl fmt::Display for Refusal {
             Refusal::Invalid => "the table is not valid",
             Refusal::NotLive => "a named or marked number is not a live cell",
             Refusal::SameCell => "the merge names one cell twice",
-            Refusal::Dimensions => "the dimensions of the two cells do not fit",
+            Refusal::DimensionsDiffer => "the dimensions of the two cells do not fit",
             Refusal::FacesDiffer => "the face lists of the two cells differ",
             Refusal::NotClosed => "a face of a marked cell is not marked",
-            Refusal::TopDimension => "a marked cell has dimension 6",
+            Refusal::TopMarked => "a marked cell has dimension 6",
             Refusal::NoRoom => "too few free records, or the target is shorter than the file",
-            Refusal::Coefficient => "a coefficient lies outside ±2^40",
-            Refusal::OffChain => "a coefficient stands at a number that is no live cell of the dimension",
-            Refusal::Index => "a dimension is above 6, or a corner index above the cell's dimension",
+            Refusal::TooLarge => "a coefficient lies outside ±2^40",
+            Refusal::Misplaced => "a coefficient stands at a number that is no live cell of the dimension",
+            Refusal::NoSuchPlace => "a dimension is above 6, or a corner index above the cell's dimension",
             Refusal::RuleA { row } => return write!(f, "the evidence breaks rule A in row {row}"),
             Refusal::RuleB { row } => return write!(f, "the evidence breaks rule B in row {row}"),
-            Refusal::Contents => "the file's table of contents or its length is wrong",
-            Refusal::BodyNumber => "a cell number of the file is not below N, not rising, or used twice",
+            Refusal::BadContents => "the file's table of contents or its length is wrong",
+            Refusal::BadNumber => "a cell number of the file is not below N, not rising, or used twice",
         })
     }
 }

@@ -10,6 +10,8 @@ use crate::Refusal;
 pub const CAPACITY: usize = 512;
 /// The greatest dimension of a cell.
 pub const TOP_DIMENSION: usize = 6;
+/// Dimensions 0 to 6.
+pub const DIMENSIONS: usize = TOP_DIMENSION + 1;
 /// Words of one record: the dimension, then faces d_0 to d_6.
 pub const RECORD_WORDS: usize = 8;
 /// What stands in every unused word.
@@ -31,8 +33,8 @@ pub fn evidence_words(n: usize) -> usize {
 /// `holes[2]` voids.
 #[derive(Clone, Copy, Debug, PartialEq, Eq)]
 pub struct Count {
-    pub cells: [u16; TOP_DIMENSION + 1],
-    pub holes: [u16; TOP_DIMENSION + 1],
+    pub cells: [u16; DIMENSIONS],
+    pub holes: [u16; DIMENSIONS],
 }
 
 /// A table of cells over words that it owns (`Vec<u16>`, `[u16; 64]`) or borrows (`&mut [u16]`, or `&[u16]` for the reading calls).
@@ -59,9 +61,9 @@ impl Table<Vec<u16>> {
     pub fn from_file(file: &[u8]) -> Result<Self, Refusal> {
         let n = match file {
             [low, high, ..] => usize::from(u16::from_le_bytes([*low, *high])),
-            _ => return Err(Refusal::Contents),
+            _ => return Err(Refusal::BadContents),
         };
-        let mut table = Table::new(n).map_err(|_| Refusal::Contents)?;
+        let mut table = Table::new(n).map_err(|_| Refusal::BadContents)?;
         table.read(file)?;
         Ok(table)
     }
@@ -129,9 +131,9 @@ impl<W: AsRef<[u16]>> Table<W> {
     }
 
     /// Fills the evidence, [`evidence_words`] of N, and answers the additions made in each dimension. Refused: 1, 2.
-    pub fn reduce(&self, evidence: &mut [u64]) -> Result<[u64; TOP_DIMENSION + 1], Refusal> {
+    pub fn reduce(&self, evidence: &mut [u64]) -> Result<[u64; DIMENSIONS], Refusal> {
         let t = self.words();
-        let mut additions = [0; TOP_DIMENSION + 1];
+        let mut additions = [0; DIMENSIONS];
         answer(unsafe { bt_reduce(t.as_ptr(), t.len(), evidence.as_mut_ptr(), evidence.len(), &mut additions) })?;
         Ok(additions)
     }
@@ -139,7 +141,7 @@ impl<W: AsRef<[u16]>> Table<W> {
     /// Tests evidence, whoever made it, and counts. Refused: 1, 2, then 13 or 14 with the first row at fault.
     pub fn check(&self, evidence: &[u64]) -> Result<Count, Refusal> {
         let t = self.words();
-        let mut count = Count { cells: [0; TOP_DIMENSION + 1], holes: [0; TOP_DIMENSION + 1] };
+        let mut count = Count { cells: [0; DIMENSIONS], holes: [0; DIMENSIONS] };
         let mut row = 0;
         let number =
             unsafe { bt_check(t.as_ptr(), t.len(), evidence.as_ptr(), evidence.len(), &mut count.cells, &mut count.holes, &mut row) };

@@ -76,37 +76,37 @@ fn each_refusal_comes_with_its_number() {
     let mut merged = edge.clone();
     assert_eq!(Table::new(0), Err(Refusal::Length));
     assert_eq!(Table::new(usize::MAX), Err(Refusal::Length));
-    assert_eq!(Table::over(vec![FREE; 8 * 513]).count(), Err(Refusal::Length));
+    assert_eq!(Table::over(vec![FREE; RECORD_WORDS * (CAPACITY + 1)]).count(), Err(Refusal::Length));
     assert_eq!(Table::over([FREE; 9]).cone_over(&[600]), Err(Refusal::Length));
     assert_eq!(Table::over([0; 8]).cone_over(&[600]), Err(Refusal::Invalid));
     assert_eq!(merged.cone_over(&[600]), Err(Refusal::NotLive));
     assert_eq!(merged.cone_over(&[63]), Err(Refusal::NotLive));
     assert_eq!(merged.merge(0, 65535), Err(Refusal::NotLive));
     assert_eq!(merged.merge(1, 1), Err(Refusal::SameCell));
-    assert_eq!(merged.merge(0, 2), Err(Refusal::Dimensions));
+    assert_eq!(merged.merge(0, 2), Err(Refusal::DimensionsDiffer));
     assert_eq!(merged.merge(2, 3), Err(Refusal::FacesDiffer));
     assert_eq!(merged.cone_over(&[2]), Err(Refusal::NotClosed));
     assert_eq!(merged, edge);
     assert_eq!(loop_of(4).cone_over(&[0, 1]), Err(Refusal::NoRoom));
     assert_eq!(edge.write(&mut [0; 59]), Err(Refusal::NoRoom));
     assert_eq!(edge.boundary(&[0; 8], 1, &mut [0; 7]), Err(Refusal::Length));
-    assert_eq!(edge.boundary(&[i64::MIN; 8], 7, &mut [0; 8]), Err(Refusal::Index));
-    assert_eq!(edge.boundary(&[i64::MIN; 8], 1, &mut [0; 8]), Err(Refusal::Coefficient));
-    assert_eq!(edge.boundary(&[1; 8], 1, &mut [0; 8]), Err(Refusal::OffChain));
-    assert_eq!(edge.corner(2, 2), Err(Refusal::Index));
+    assert_eq!(edge.boundary(&[i64::MIN; 8], 7, &mut [0; 8]), Err(Refusal::NoSuchPlace));
+    assert_eq!(edge.boundary(&[i64::MIN; 8], 1, &mut [0; 8]), Err(Refusal::TooLarge));
+    assert_eq!(edge.boundary(&[1; 8], 1, &mut [0; 8]), Err(Refusal::Misplaced));
+    assert_eq!(edge.corner(2, 2), Err(Refusal::NoSuchPlace));
     assert_eq!(edge.check(&[]), Err(Refusal::Length));
 }
 
 #[test]
 fn a_cell_of_dimension_6_has_no_cone() {
-    let mut table = Table::new(512).unwrap();
+    let mut table = Table::new(CAPACITY).unwrap();
     for _ in 0..7 {
-        let live: Vec<u16> = (0..512).filter(|&c| table.words()[8 * usize::from(c)] != FREE).collect();
+        let live: Vec<u16> = (0..CAPACITY as u16).filter(|&c| table.words()[RECORD_WORDS * usize::from(c)] != FREE).collect();
         table.cone_over(&live).unwrap();
     }
     assert_eq!(table.count().unwrap().cells, [7, 21, 35, 35, 21, 7, 1]);
     let all: Vec<u16> = (0..127).collect();
-    assert_eq!(table.cone_over(&all), Err(Refusal::TopDimension));
+    assert_eq!(table.cone_over(&all), Err(Refusal::TopMarked));
 }
 
 #[test]
@@ -127,14 +127,14 @@ fn a_file_gives_the_table_back() {
     assert_eq!(file.len(), 80);
     assert_eq!(Table::from_file(&file), Ok(table));
     let mut read = Table::new(8).unwrap();
-    assert_eq!(read.read(&file[..79]), Err(Refusal::Contents));
+    assert_eq!(read.read(&file[..79]), Err(Refusal::BadContents));
     let mut twice = file.clone();
     twice[46] = 0; // edge 1 takes the point's number
-    assert_eq!(read.read(&twice), Err(Refusal::BodyNumber));
+    assert_eq!(read.read(&twice), Err(Refusal::BadNumber));
     for n in [&[][..], &[1], &[0, 0], &[1, 2]] {
-        assert_eq!(Table::from_file(n), Err(Refusal::Contents));
+        assert_eq!(Table::from_file(n), Err(Refusal::BadContents));
     }
-    assert_eq!(Table::from_file(&[8; 9000]), Err(Refusal::Contents));
+    assert_eq!(Table::from_file(&[8; 9000]), Err(Refusal::BadContents));
 }
 
 #[test]

@@ -1,6 +1,6 @@
 //! One call with all that is lent to it, and all that it leaves behind: the form in which the model and the library are compared.
 
-use crate::model::table::{Answer, Refusal, FREE, RECORD};
+use crate::model::table::{Answer, Refusal, DIMENSIONS, FREE, RECORD};
 use crate::model::{building, evidence, reading, sketch};
 
 /// What a value pointer refers to before the call. No accepted call answers these values.
@@ -93,17 +93,17 @@ fn plain(answer: Answer<()>) -> (u32, Vec<i64>) {
 }
 
 fn checked(answer: Answer<evidence::Count>) -> (u32, Vec<i64>) {
-    let mut values = vec![BEFORE_16 as i64; 15];
+    let mut values = vec![BEFORE_16 as i64; 2 * DIMENSIONS + 1];
     match answer {
         Ok(count) => {
-            for p in 0..7 {
+            for p in 0..DIMENSIONS {
                 values[p] = count.cells[p] as i64;
-                values[7 + p] = count.holes[p] as i64;
+                values[DIMENSIONS + p] = count.holes[p] as i64;
             }
             (0, values)
         }
         Err(Refusal { number, row }) => {
-            values[14] = row.map_or(values[14], i64::from);
+            values[2 * DIMENSIONS] = row.map_or(values[2 * DIMENSIONS], i64::from);
             (number, values)
         }
     }
@@ -124,7 +124,7 @@ pub fn by_model(case: &Case) -> Outcome {
         Call::Sheet => one(reading::sheet(table), BEFORE_8.into()),
         Call::Reduce { evidence } => match evidence::reduce(table, evidence) {
             Ok(additions) => (0, additions.iter().map(|count| *count as i64).collect()),
-            Err(refusal) => (refusal.number, vec![BEFORE_64; 7]),
+            Err(refusal) => (refusal.number, vec![BEFORE_64; DIMENSIONS]),
         },
         Call::Check { evidence } => checked(evidence::check(table, evidence)),
         Call::Write { target } => one(sketch::write(table, target).map(|length| length as i64), BEFORE_64),

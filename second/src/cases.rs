@@ -1,7 +1,7 @@
 //! Cases 1 to 15 of 01 "Measured pieces", and its "Shortcuts that look right", against the model and, when it is linked, the library.
 
 use crate::call::{Call, Case, Outcome, Run};
-use crate::model::table::{mark_words, Cell, Table, FREE, RECORD};
+use crate::model::table::{mark_words, Cell, Table, DIMENSIONS, FREE, RECORD};
 use std::fmt::Debug;
 
 type Verdict = Result<(), String>;
@@ -88,8 +88,8 @@ impl Bench {
         let checked = self.call(Call::Check { evidence });
         same("answer of the checker", checked.number, 0)?;
         let mut seven = wanted.to_vec();
-        seven.resize(7, 0);
-        same("hole numbers", checked.values[7..14].to_vec(), seven)?;
+        seven.resize(DIMENSIONS, 0);
+        same("hole numbers", checked.values[DIMENSIONS..2 * DIMENSIONS].to_vec(), seven)?;
         Ok(reduced.values)
     }
 }

@@ -1,6 +1,7 @@
 //! The library's C names, and a safe run of one call in which every buffer lies between guard words.
 
 use crate::call::*;
+use crate::model::table::DIMENSIONS;
 
 extern "C" {
     fn bt_empty(table: *mut u16, words: usize) -> u32;
@@ -111,10 +112,10 @@ impl Lent {
             result: Guarded::new(result, GUARD_64),
             bytes: Guarded::new(bytes, GUARD_8),
             byte_value: Guarded::new(&[BEFORE_8], GUARD_8),
-            short_values: Guarded::new(&[BEFORE_16; 7], GUARD_16),
-            holes: Guarded::new(&[BEFORE_16; 7], GUARD_16),
+            short_values: Guarded::new(&[BEFORE_16; DIMENSIONS], GUARD_16),
+            holes: Guarded::new(&[BEFORE_16; DIMENSIONS], GUARD_16),
             row: Guarded::new(&[BEFORE_16], GUARD_16),
-            long_values: Guarded::new(&[BEFORE_64; 7], GUARD_64),
+            long_values: Guarded::new(&[BEFORE_64; DIMENSIONS], GUARD_64),
         }
     }
 

@@ -3,7 +3,7 @@
 use crate::compare::files::random_file;
 use crate::compare::tables::random_room;
 use crate::examples;
-use crate::model::sketch::printed;
+use crate::model::sketch::{printed, CONTENTS};
 use crate::model::table::MOST;
 use crate::random::Random;
 use std::collections::BTreeMap;
@@ -16,7 +16,7 @@ pub fn run(program: &str, seed: u64, files: usize) -> Result<bool, String> {
     println!("seed {seed}, {files} files");
     let random = &mut Random::new(seed);
     let mut first: Vec<Vec<u8>> = examples::all().into_iter().map(|(_, bytes)| bytes).collect();
-    first.extend([vec![], vec![2], vec![2, 0], vec![0; 44], vec![255; 44]]);
+    first.extend([vec![], vec![2], vec![2, 0], vec![0; CONTENTS], vec![255; CONTENTS]]);
     first.extend(examples::longest());
     let mut first = first.into_iter();
     let mut met: BTreeMap<String, usize> = BTreeMap::new();

@@ -34,8 +34,8 @@ fn the_program_refuses() {
     for (bytes, text) in [
         (vec![], "refused 15\n"),
         (vec![2], "refused 15\n"),
-        (vec![0; 44], "refused 15\n"),
-        (vec![1; 8237], "refused 15\n"),
+        (vec![0; sketch::CONTENTS], "refused 15\n"),
+        (vec![1; sketch::LONGEST + 1], "refused 15\n"),
     ] {
         assert_eq!(sketch::printed(&bytes), text);
     }
@@ -58,13 +58,13 @@ fn the_ducts() {
 }
 
 /// The meaning of b_p, by listing all sets of cells: cycles and boundaries are subspaces, so their numbers are powers of two.
-fn holes_by_meaning(table: &Table) -> [u16; 7] {
+fn holes_by_meaning(table: &Table) -> [u16; DIMENSIONS] {
     let sets = |p: usize| {
         let cells: Vec<u16> = table.live().filter(|(_, cell)| cell.dimension == p).map(|(number, _)| number).collect();
         (0..1_u32 << cells.len())
             .map(move |bits| (0..cells.len()).filter(|i| bits >> i & 1 == 1).map(|i| cells[i]).collect::<BTreeSet<_>>())
     };
-    let mut holes = [0; 7];
+    let mut holes = [0; DIMENSIONS];
     for (p, hole) in holes.iter_mut().enumerate() {
         let cycles = sets(p).filter(|set| boundary_of_row(table, set).is_empty()).count();
         let boundaries: BTreeSet<_> = sets(p + 1).map(|set| boundary_of_row(table, &set)).collect();
@@ -123,7 +123,7 @@ fn files_there_and_back() {
         assert_eq!(again, words);
     }
     let longest = examples::longest();
-    assert_eq!(longest[0].len(), 44 + 2 + 6 + 8 + 10 + 12 + 14 + 506 * 16);
+    assert_eq!(longest[0].len(), sketch::CONTENTS + 2 + 6 + 8 + 10 + 12 + 14 + 506 * 16);
     assert!(sketch::printed(&longest[0]).ends_with("6 506 505\n"));
     assert_eq!(longest[1].len(), sketch::LONGEST);
     assert_eq!(sketch::printed(&longest[1]), "refused 2\n");

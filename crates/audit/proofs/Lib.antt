@@ -1,10 +1,8 @@
 pub mod Scans
-pub mod Sizes
 pub mod Places
 pub mod Valid
 pub mod Empties
-pub mod Outcomes
 pub mod Records
 pub mod Passes
-pub mod Grounds
 pub mod Verdicts
+pub mod Clearing

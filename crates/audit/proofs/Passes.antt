@@ -9,15 +9,14 @@ use native.Mathlib.Omega.{arith}
 use native.Mathlib.Numerals.{add-one}
 use lib.ListN.{getD}
 use Rattle.table.specs.Kind.{used}
-use Rattle.table.specs.Table.{cellsOf, dim, face, facesOf}
-use Rattle.table.specs.Audit.{scan, orElse, isSound, recordSound, faceSound, lawSound, lawPlaces, recordBreach, faceBreach, lawBreach, cellBreach, firstBreach}
-use Rattle.table.specs.declared.Breach.{Breach}
-use Rattle.table.specs.declared.Breach.the-variants.{Sound, Record, Face, Law}
-use Rattle.audit.proofs.Scans.{picks-sound, picks-breach, picked-sound, scan-each, scan-more, scan-stop}
-use Rattle.audit.proofs.Places.{used-is, used-fits, law-places-says}
+use Rattle.table.specs.Table.{cellsOf, dim, face}
+use Rattle.audit.specs.Audit.{scan, orElse, isSound, recordSound, faceSound, lawSound, lawPlaces, recordBreach, faceBreach, lawBreach, cellBreach, firstBreach}
+use Rattle.audit.specs.declared.Breach.{Breach}
+use Rattle.audit.specs.declared.Breach.the-variants.{Sound, Record, Face, Law}
+use Rattle.audit.proofs.Scans.{picks-sound, picks-breach, picked-sound, scan-each, scan-more, scan-fewer, scan-stop}
+use Rattle.audit.proofs.Records.{Cell, used-here, law-here, face-at}
 use Rattle.audit.proofs.Valid.{lawScan, face-inside, face-below, face-says, law-true, law-says}
 use Rattle.counting.proofs.Cases.{not-true-false}
-use Rattle.table.proofs.Records.{faces-at}
 
 -- the search of a cell from its places on
 abbrev afterRecord : List ℕ → ℕ → ℕ → ℕ → Breach
@@ -39,57 +38,42 @@ first-is t c n b e h s f bad = sym (scan-stop (cellBreach t) c (cellsOf t) b (om
 pub stops-at-record : (t : List ℕ) (c n : ℕ) → n ≡ cellsOf t → c < n → scan (cellBreach t) c ≡ Sound → recordSound t c ≡ false → Record c ≡ firstBreach t
 stops-at-record t c n e h s f = first-is t c n (Record c) e h s (at-record t c f) refl
 
-pub none-found : (t : List ℕ) (c n : ℕ) → n ≡ cellsOf t → c ≤ n → n ≤ c → scan (cellBreach t) c ≡ Sound → Sound ≡ firstBreach t
+pub none-found : (t : List ℕ) (c n : ℕ) → n ≡ cellsOf t → n ≤ c → scan (cellBreach t) c ≡ Sound → Sound ≡ firstBreach t
 unfolding firstBreach
-none-found t c n e h l s =
-    let i : c ≡ cellsOf t = omega arith in
-    sym s ∙ ap (scan (cellBreach t)) i
+none-found t c n e h s = sym (scan-fewer (cellBreach t) (cellsOf t) c (omega arith) s)
 
--- What the pass has of cell c once its record is sound: n cells, dimension p, u used places, m places of the law, the faces fs
--- by value.
+-- What the pass has of cell c once its record is sound.
 pub record Here (t : List ℕ) (n c p u m : ℕ) (fs : List ℕ) : Type 0 where
-  pub cells : n ≡ cellsOf t
-  pub inside : c < n
+  pub cell : Cell t n c p u m fs
   pub earlier : scan (cellBreach t) c ≡ Sound
   pub recorded : recordSound t c ≡ true
-  pub dimension : p ≡ dim t c
-  pub places-used : u ≡ used p
-  pub places-law : m ≡ lawPlaces p
-  pub by-value : fs ≡ facesOf t c
 
 module _ {t : List ℕ} {n c p u m : ℕ} {fs : List ℕ} (h : Here t n c p u m fs) where
   cell-is : cellBreach t c ≡ afterRecord t c u m
-  cell-is =
-      past-record t c (h .recorded)
-      ∙ sym (ap₂ (afterRecord t c) (h .places-used ∙ ap used (h .dimension)) (h .places-law ∙ ap lawPlaces (h .dimension)))
+  cell-is = past-record t c (h .recorded) ∙ sym (ap₂ (afterRecord t c) (used-here (h .cell)) (law-here (h .cell)))
 
-  face-at : (j : ℕ) → j < u → getD fs j 0 ≡ face t c j
-  face-at j l = faces-at t c fs (h .by-value) j (omega (arith, h .places-used, used-fits p))
-
-  law-place-used : (j : ℕ) → j < m → j < u
-  law-place-used j l =
-      let q = law-places-says p j (omega (arith, h .places-law)) in
-      omega (arith, h .places-used, used-is p (omega (arith, q .0)) (q .1), q .2)
+  used-face : (j : ℕ) → j < u → getD fs j 0 ≡ face t c j
+  used-face j l = face-at (h .cell) j (omega arith)
 
   -- a face outside the table, or one that is not one dimension down, is the first breach
   stops-at-face : (j : ℕ) → j < u → scan (faceBreach t c) j ≡ Sound → (faceSound t c j ≡ true → ⊥) → Face c j ≡ firstBreach t
   unfolding faceBreach
   stops-at-face j l s f =
-      first-is t c n (Face c j) (h .cells) (h .inside) (h .earlier)
+      first-is t c n (Face c j) (h .cell .cells) (h .cell .inside) (h .earlier)
       (cell-is
       ∙ ap (λ b. orElse b (scan (lawScan t c) m))
       (scan-stop (faceBreach t c) j u (Face c j) l s (picks-breach (faceSound t c j) (Face c j) (not-true-false (faceSound t c j) f)) refl)) refl
 
   pub stops-outside : (j : ℕ) → j < u → scan (faceBreach t c) j ≡ Sound → n ≤ getD fs j 0 → Face c j ≡ firstBreach t
-  stops-outside j l s o = stops-at-face j l s (λ e. omega (arith, face-inside t c j e, face-at j l, h .cells))
+  stops-outside j l s o = stops-at-face j l s (λ e. omega (arith, face-inside t c j e, used-face j l, h .cell .cells))
 
   -- d is the dimension of face j
   module _ (j d : ℕ) (l : j < u) (s : scan (faceBreach t c) j ≡ Sound) (e : d ≡ dim t (getD fs j 0)) where
     dim-at : d + 1 ≡ suc (dim t (face t c j))
-    dim-at = add-one d ∙ ap suc (e ∙ ap (dim t) (face-at j l))
+    dim-at = add-one d ∙ ap suc (e ∙ ap (dim t) (used-face j l))
 
     pub stops-at-dim : (d + 1 ≡ p → ⊥) → Face c j ≡ firstBreach t
-    stops-at-dim o = stops-at-face j l s (λ f. o (dim-at ∙ sym (face-below t c j f) ∙ sym (h .dimension)))
+    stops-at-dim o = stops-at-face j l s (λ f. o (dim-at ∙ sym (face-below t c j f) ∙ sym (h .cell .dimension)))
 
     -- any other face passes
     pub face-passes : getD fs j 0 < n → d + 1 ≡ p → scan (faceBreach t c) (j + 1) ≡ Sound
@@ -97,31 +81,28 @@ module _ {t : List ℕ} {n c p u m : ℕ} {fs : List ℕ} (h : Here t n c p u m 
     face-passes i q =
         scan-more (faceBreach t c) j s
         (picks-sound (faceSound t c j) (Face c j)
-        (face-says t c j (omega (arith, face-at j l, h .cells)) (sym (h .dimension) ∙ sym q ∙ dim-at)))
-
-  pub faces-pass : (j : ℕ) → j ≤ u → u ≤ j → scan (faceBreach t c) j ≡ Sound → scan (faceBreach t c) u ≡ Sound
-  faces-pass j l g s = let i : j ≡ u = omega arith in rw i at s
+        (face-says t c j (omega (arith, used-face j l, h .cell .cells)) (sym (h .cell .dimension) ∙ sym q ∙ dim-at)))
 
   module _ (passed : scan (faceBreach t c) u ≡ Sound) where
     -- so every face that the law reads lies inside
     pub face-known : (j : ℕ) → j < m → getD fs j 0 < cellsOf t
     unfolding faceBreach
     face-known j l =
-        let v : j < u = law-place-used j l in
-        omega (arith, face-at j v, face-inside t c j (picked-sound (faceSound t c j) (Face c j) refl (scan-each (faceBreach t c) u passed j v)))
+        let v : j < u = omega arith in
+        omega (arith, used-face j v, face-inside t c j (picked-sound (faceSound t c j) (Face c j) refl (scan-each (faceBreach t c) u passed j v)))
 
     -- x and y are the words that the law compares at j and l
     module _ (j l x y : ℕ) (q : j < m) (k : l < j) (s : scan (lawBreach t c j) l ≡ Sound) (ex : x ≡ face t (getD fs j 0) l) (ey : y ≡ face t (getD fs l 0) (j - 1)) where
       left : x ≡ face t (face t c j) l
-      left = ex ∙ ap (λ f. face t f l) (face-at j (law-place-used j q))
+      left = ex ∙ ap (λ f. face t f l) (used-face j (omega arith))
 
       right : y ≡ face t (face t c l) (j - 1)
-      right = ey ∙ ap (λ f. face t f (j - 1)) (face-at l (law-place-used l (omega arith)))
+      right = ey ∙ ap (λ f. face t f (j - 1)) (used-face l (omega arith))
 
       pub stops-at-law : scan (lawScan t c) j ≡ Sound → (x ≡ y → ⊥) → Law c j l ≡ firstBreach t
       unfolding lawBreach
       stops-at-law r o =
-          first-is t c n (Law c j l) (h .cells) (h .inside) (h .earlier)
+          first-is t c n (Law c j l) (h .cell .cells) (h .cell .inside) (h .earlier)
           (cell-is
           ∙ ap (λ b. orElse b (scan (lawScan t c) m)) passed
           ∙ scan-stop (lawScan t c) j m (Law c j l) q r
@@ -136,13 +117,10 @@ module _ {t : List ℕ} {n c p u m : ℕ} {fs : List ℕ} (h : Here t n c p u m 
           (picks-sound (lawSound t c j l) (Law c j l) (law-says t c j l (sym left ∙ e ∙ right)))
 
     -- a cell that passes all three
-    pub cell-passes : (j : ℕ) → j ≤ m → m ≤ j → scan (lawScan t c) j ≡ Sound → scan (cellBreach t) (c + 1) ≡ Sound
-    cell-passes j l g r =
-        let i : j ≡ m = omega arith in
+    pub cell-passes : (j : ℕ) → m ≤ j → scan (lawScan t c) j ≡ Sound → scan (cellBreach t) (c + 1) ≡ Sound
+    cell-passes j l r =
         scan-more (cellBreach t) c (h .earlier)
-        (cell-is ∙ ap (λ b. orElse b (scan (lawScan t c) m)) passed ∙ sym (ap (scan (lawScan t c)) i) ∙ r)
+        (cell-is ∙ ap (λ b. orElse b (scan (lawScan t c) m)) passed ∙ scan-fewer (lawScan t c) m j l r)
 
-pub place-passes : (t : List ℕ) (c j l : ℕ) → l ≤ j → j ≤ l → scan (lawBreach t c j) l ≡ Sound → scan (lawScan t c) j ≡ Sound → scan (lawScan t c) (j + 1) ≡ Sound
-place-passes t c j l k g s r =
-    let i : l ≡ j = omega arith in
-    scan-more (lawScan t c) j r (rw i at s)
+pub place-passes : (t : List ℕ) (c j l : ℕ) → j ≤ l → scan (lawBreach t c j) l ≡ Sound → scan (lawScan t c) j ≡ Sound → scan (lawScan t c) (j + 1) ≡ Sound
+place-passes t c j l k s r = scan-more (lawScan t c) j r (scan-fewer (lawBreach t c j) j l k s)

@@ -1,38 +1,17 @@
--- Laws of the search for the first breach, and of the test over all numbers below a bound.
+-- Laws of the search for the first breach.
 -- What carries them: recursion on the bound. Assumes nothing.
-use mathlib.Core.Path.{_≡_, refl, sym, ap, subst, _∙_}
-use mathlib.Core.Bool.{Bool, true, false, _&&_, _||_, false≢true}
+use mathlib.Core.Path.{_≡_, refl, sym, ap, _∙_}
+use mathlib.Core.Bool.{Bool, true, false, false≢true}
 use mathlib.Core.Logic.{⊎-elim}
-use Prim.Native.Nat.{ℕ, zero, suc, _+_, _<_}
+use Prim.Native.Nat.{ℕ, zero, suc, _+_, _≤_, _<_}
 use native.Mathlib.Nat.{not-suc-le-zero, le-of-suc-le-suc, eq-or-lt-of-le}
 use native.Mathlib.Numerals.{add-one}
 use native.Mathlib.Omega.{arith}
-use Rattle.counting.proofs.Cases.{and-both, and-left, and-right}
+use Rattle.counting.proofs.Tests.{at-or-below}
 use Rattle.counting.specs.Counting.{pick}
-use Rattle.table.specs.Audit.{all, scan, orElse, isSound}
-use Rattle.table.specs.declared.Breach.{Breach}
-use Rattle.table.specs.declared.Breach.the-variants.{Sound, Record, Face, Law}
-
--- a statement about k below suc n: at n, or below n
-pub at-or-below : (P : ℕ → Type 0) (k n : ℕ) → k < suc n → P n → (k < n → P k) → P k
-at-or-below P k n h here below = ⊎-elim (λ e. subst P (sym e) here) below (eq-or-lt-of-le (le-of-suc-le-suc h))
-
-pub or-else : (a b : Bool) → (a || b) ≡ true → a ≡ false → b ≡ true
-or-else true b e f = absurd (false≢true (sym f))
-or-else false b e f = e
-
--- all: what is tested of each number below n
-pub all-true : (f : ℕ → Bool) (n : ℕ) → all n f ≡ true → (k : ℕ) → k < n → f k ≡ true
-unfolding all
-all-true f zero e k h = absurd (not-suc-le-zero h)
-all-true f (suc n) e k h =
-    at-or-below (λ i. f i ≡ true) k n h (and-right (all n f) (f n) e) (λ l. all-true f n (and-left (all n f) (f n) e) k l)
-
-pub all-says : (f : ℕ → Bool) (n : ℕ) → ((k : ℕ) → k < n → f k ≡ true) → all n f ≡ true
-unfolding all
-all-says f zero each = refl
-all-says f (suc n) each =
-    and-both (all n f) (f n) (all-says f n (λ k h. each k (omega arith))) (each n (omega arith))
+use Rattle.audit.specs.Audit.{scan, orElse, isSound}
+use Rattle.audit.specs.declared.Breach.{Breach}
+use Rattle.audit.specs.declared.Breach.the-variants.{Sound, Record, Face, Law}
 
 -- a breach comes first where it is one, and is passed over where it is none
 pub first-breach-first : (b b′ : Breach) → isSound b ≡ false → orElse b b′ ≡ b
@@ -91,6 +70,10 @@ scan-zero f = refl
 -- one turn more without a breach,
 pub scan-more : (f : ℕ → Breach) (n : ℕ) → scan f n ≡ Sound → f n ≡ Sound → scan f (n + 1) ≡ Sound
 scan-more f n e h = scan-none f (n + 1) (λ k l. at-or-below (λ i. f i ≡ Sound) k n (rw add-one at l) h (scan-each f n e k))
+
+-- at an end that was passed,
+pub scan-fewer : (f : ℕ → Breach) (k n : ℕ) → k ≤ n → scan f n ≡ Sound → scan f k ≡ Sound
+scan-fewer f k n h e = scan-none f k (λ i l. scan-each f n e i (omega arith))
 
 -- and the turn at which it stops.
 pub scan-stop : (f : ℕ → Breach) (k n : ℕ) (b : Breach) → k < n → scan f k ≡ Sound → f k ≡ b → isSound b ≡ false → scan f n ≡ b

@@ -10,17 +10,20 @@ use native.Mathlib.Omega.{arith}
 use borrow.Author.Tests.{eq-eqb, le-leb, lt-ltb, le-ltb, eqb-true, leb-true, ltb-true, ltb-false, not-false}
 use lib.Dec.{leb, ltb, eqb}
 use Rattle.table.specs.Kind.{top, faces, freeMark, used}
-use Rattle.table.specs.Table.{cellsOf, dim, face, Live, Valid}
-use Rattle.table.specs.Audit.{all, scan, orElse, isSound, recordSound, faceSound, lawSound, lawPlaces, recordBreach, faceBreach, lawBreach, cellBreach, firstBreach, sized, sound, auditGrounds}
-use Rattle.table.specs.Calls.{verdict}
-use Rattle.table.specs.declared.Breach.{Breach}
-use Rattle.table.specs.declared.Breach.the-variants.{Sound, Record, Face, Law}
-use Rattle.table.specs.declared.Verdict.the-variants.{Accepted}
-use Rattle.audit.proofs.Grounds.{accepted-none-applies}
+use Rattle.table.specs.Table.{cellsOf, dim, face, Live, Valid, sized}
+use Rattle.counting.specs.Counting.{all}
+use Rattle.audit.specs.Audit.{scan, orElse, isSound, recordSound, faceSound, lawSound, lawPlaces, recordBreach, faceBreach, lawBreach, cellBreach, firstBreach, sound, auditGrounds}
+use Rattle.calls.specs.Calls.{verdict}
+use Rattle.audit.specs.declared.Breach.{Breach}
+use Rattle.audit.specs.declared.Breach.the-variants.{Sound, Record, Face, Law}
+use Rattle.calls.specs.declared.Verdict.the-variants.{Accepted}
+use Rattle.calls.proofs.Grounds.{accepted-none-applies}
 use Rattle.counting.proofs.Cases.{and-left, and-right, and-both}
-use Rattle.audit.proofs.Scans.{or-else, all-true, all-says, or-else-left, or-else-right, or-else-both, sound-true, picked-sound, picks-sound, scan-none, scan-each}
-use Rattle.audit.proofs.Sizes.{sized-is-sized, sized-says}
-use Rattle.audit.proofs.Places.{used-is, used-says, law-places-is, law-places-says}
+use Rattle.counting.proofs.Tests.{or-else, all-true, all-says}
+use Rattle.audit.proofs.Scans.{or-else-left, or-else-right, or-else-both, sound-true, picked-sound, picks-sound, scan-none, scan-each}
+use Rattle.table.proofs.Sizes.{sized-is-sized, sized-says}
+use Rattle.table.proofs.Places.{used-is, used-says}
+use Rattle.audit.proofs.Places.{law-places-is, law-places-says}
 
 -- What the three tests of a cell say, and back.
 

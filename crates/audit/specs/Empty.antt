@@ -4,9 +4,9 @@ use mathlib.Core.List.{List, [], _∷_}
 use Prim.Native.Nat.{ℕ}
 use lib.ListN.{length, replicate}
 use Rattle.table.specs.Kind.{freeMark}
-use Rattle.table.specs.Audit.{onLength}
-use Rattle.table.specs.Calls.{verdict, leaves}
-use Rattle.table.specs.declared.Verdict.{Verdict}
+use Rattle.table.specs.Table.{onLength}
+use Rattle.calls.specs.Calls.{verdict, leaves}
+use Rattle.calls.specs.declared.Verdict.{Verdict}
 
 abbrev pub emptyVerdict : List ℕ → Verdict
 emptyVerdict t = verdict (onLength t ∷ [])

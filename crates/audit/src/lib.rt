@@ -1,22 +1,31 @@
 // Emptying a table, and the audit: one pass over the cells, left by its label at the first breach.
 ghost use mathlib.Core.Path.{_≡_};
+ghost use mathlib.Core.Bool.{true};
+ghost use mathlib.Core.Logic.{_⊎_};
 ghost use Prim.Native.Nat.{_≤_, _<_};
-ghost use Rattle.table.specs.Kind.{faces};
-ghost use Rattle.table.specs.Table.{cellsOf, Sized};
-ghost use Rattle.table.specs.Audit.{recordSound, lawPlaces, firstBreach, auditGrounds};
-ghost use Rattle.table.specs.Calls.{verdict, Ends};
+ghost use Rattle.table.specs.Kind.{top, faces, freeMark, used as usedOf};
+ghost use Rattle.table.specs.Table.{cellsOf, dim as dimOf, Sized};
+ghost use Rattle.audit.specs.Audit.{scan, cellBreach, recordSound, lawPlaces, firstBreach, auditGrounds};
+ghost use Rattle.audit.specs.declared.Breach.the-variants.{Sound};
+ghost use Rattle.calls.specs.Calls.{verdict, Ends};
 ghost use Rattle.audit.specs.Empty.{emptyVerdict, emptyLeaves};
-use table::Breach;
-use table::Refusal;
+use calls::Refusal;
+use calls::Verdict;
 use table::Table;
-use table::Verdict;
+
+// What the search through a table finds first: nothing wrong, a record, a face at a place, or a pair of places that breaks the law.
+pub enum Breach {
+    Sound,
+    Record(usize),
+    Face(usize, usize),
+    Law(usize, usize, usize),
+}
 
 // Sets every word to the free mark, over any old contents. Refused with 1 where the length is no table's; then no word changes.
 pub fn empty(t: &mut [u16]) -> Verdict
     ensures { λ r. ⌜ Ends (emptyVerdict (now (t .entry))) (emptyLeaves (now (t .entry))) r (now (t .exit)) ⌝ }
 {
-    let cells = Table::of(t).cells;
-    if cells == 0 {
+    if !Table::fits(t) {
         return Verdict::Refused(Refusal::Length);
     }
     let mut k = 0;
@@ -58,6 +67,76 @@ fn law_places(p: u16) -> usize
     Table::used(p)
 }
 
+// The quick pass makes every comparison of a record and leaves for none that differs, so that the compiler unrolls them. Where it does
+// not clear a cell, the labelled loops below, which are the form that the rules name, begin there and name the breach.
+
+// Whether cell c breaks nothing, for its dimension p with this many used places and places of the law: the differences are gathered
+// in one word. A face outside the table is left at once, since it cannot be read. A no says nothing of what is wrong, or where. Each
+// call has numbers for the last three, so the lengths of the loops are known.
+fn clears_as(t: &[u16], n: usize, c: usize, p: u16, used: usize, places: usize) -> bool
+    requires { ⌜ (n ≡ cellsOf (now t)) × (c < n) ⌝ }
+    requires { ⌜ (p ≡ dimOf (now t) c) × ((p ≤ top) ⊎ (p ≡ freeMark)) ⌝ }
+    requires { ⌜ (used ≡ usedOf p) × (places ≡ lawPlaces p) ⌝ }
+    ensures { λ r. ⌜ (r ≡ true → cellBreach (now (t .entry)) c ≡ Sound) ⌝ }
+{
+    let faces = Table::faces(t, c);
+    let mut bad = 0;
+    for j in 0..used {
+        if faces[j] as usize >= n {
+            return false;
+        }
+    }
+    for j in 0..used {
+        let f = faces[j] as usize;
+        bad |= Table::dim(t, f) ^ (p - 1);
+    }
+    for j in 0..places {
+        let f = faces[j] as usize;
+        for l in 0..j {
+            let e = faces[l] as usize;
+            bad |= Table::face(t, f, l) ^ Table::face(t, e, j - 1);
+        }
+    }
+    for j in used..Table::FACES {
+        bad |= faces[j] ^ Table::FREE;
+    }
+    bad == 0
+}
+
+// The same for any word 0: one piece of code for each dimension, and one for a free record.
+fn clears(t: &[u16], n: usize, c: usize) -> bool
+    requires { ⌜ (n ≡ cellsOf (now t)) × (c < n) ⌝ }
+    ensures { λ r. ⌜ (r ≡ true → cellBreach (now (t .entry)) c ≡ Sound) ⌝ }
+{
+    let p = Table::dim(t, c);
+    match p {
+        0 => clears_as(t, n, c, 0, 0, 0),
+        1 => clears_as(t, n, c, 1, 2, 0),
+        2 => clears_as(t, n, c, 2, 3, 3),
+        3 => clears_as(t, n, c, 3, 4, 4),
+        4 => clears_as(t, n, c, 4, 5, 5),
+        5 => clears_as(t, n, c, 5, 6, 6),
+        6 => clears_as(t, n, c, 6, 7, 7),
+        Table::FREE => clears_as(t, n, c, Table::FREE, 0, 0),
+        _ => false,
+    }
+}
+
+// How many cells from the first on break nothing, as far as this quick pass sees.
+fn cleared(t: &[u16], n: usize) -> usize
+    requires { ⌜ n ≡ cellsOf (now t) ⌝ }
+    ensures { λ r. ⌜ (r ≤ n) × (scan (cellBreach (now (t .entry))) r ≡ Sound) ⌝ }
+{
+    let mut c = 0;
+    while c < n {
+        if !clears(t, n, c) {
+            return c;
+        }
+        c += 1;
+    }
+    c
+}
+
 // The first breach of a table of the right length: cell by cell the record, then the face places, then the pairs of the law by j,
 // then l. The label leaves every loop at the first failure. The seven faces are read by value once, and f and e lie inside by
 // then, so the law's reads ask nothing more. A part of the audit and no public call: its caller shows the length.
@@ -66,8 +145,9 @@ pub fn first_breach(t: &[u16]) -> Breach
     ensures { λ r. ⌜ r ≡ firstBreach (now (t .entry)) ⌝ }
 {
     let n = Table::room(t);
+    let start = cleared(t, n);
     let mut found = Breach::Sound;
-    'cells: for c in 0..n {
+    'cells: for c in start..n {
         if !record_sound(t, c) {
             found = Breach::Record(c);
             break 'cells;
@@ -105,8 +185,7 @@ pub fn first_breach(t: &[u16]) -> Breach
 pub fn audit(t: &[u16]) -> Verdict
     ensures { λ r. ⌜ r ≡ verdict (auditGrounds (now (t .entry))) ⌝ }
 {
-    let n = Table::of(t).cells;
-    if n == 0 {
+    if !Table::fits(t) {
         return Verdict::Refused(Refusal::Length);
     }
     let found = first_breach(t);

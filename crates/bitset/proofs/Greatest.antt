@@ -22,13 +22,6 @@ greatest-unique ws m m′ top top′ = omega (arith, never m m′ top top′, ne
     never : (m m′ : ℕ) → IsGreatest ws m → IsGreatest ws m′ → ¬ (m < m′)
     never m m′ top top′ h = omega (arith, top′ .in-set, top .above m′ h)
 
--- what `largest` may answer is decided
-pub top-unique : (ws : List ℕ) (r r′ : Top) → TopIs ws r → TopIs ws r′ → r ≡ r′
-top-unique ws Nothing Nothing none none′ = refl
-top-unique ws Nothing (Cell m) none top = absurd (omega (arith, none m, top .in-set))
-top-unique ws (Cell m) Nothing top none = absurd (omega (arith, none m, top .in-set))
-top-unique ws (Cell m) (Cell m′) top top′ = ap Cell (greatest-unique ws m m′ top top′)
-
 -- Two sets with the same largest member: the sum has nothing from it on, so its own largest member, where it has one, is less.
 module _ (x y : List ℕ) (m : ℕ) (e : length x ≡ length y) (top : IsGreatest x m) (top′ : IsGreatest y m) where
   pub sum-of-tops-empty : (s : ℕ) → m ≤ s → mark (sumOf x y) s ≡ 0
@@ -36,9 +29,6 @@ module _ (x y : List ℕ) (m : ℕ) (e : length x ≡ length y) (top : IsGreates
       by-cases (ℕ-discrete s m)
       (λ same. ap (mark (sumOf x y)) same ∙ mark-sum x y e m ∙ omega (arith, top .in-set, top′ .in-set))
       (λ apart. mark-sum x y e s ∙ omega (arith, top .above s (omega arith), top′ .above s (omega arith)))
-
-  pub sum-of-tops-falls : (m′ : ℕ) → IsGreatest (sumOf x y) m′ → m′ < m
-  sum-of-tops-falls m′ less = by-cases (decLt m′ m) (λ h. h) (λ h. absurd (omega (arith, less .in-set, sum-of-tops-empty m′ (omega arith))))
 
 -- the top digit of a number of j + 1 digits
 pub digit-top : (n j : ℕ) → 2 ^ j ≤ n → n < 2 ^ suc j → digit n j ≡ 1

@@ -5,3 +5,5 @@ pub mod Greatest
 pub mod Words
 pub mod Runs
 pub mod Adding
+pub mod Inclusion
+pub mod RowLaws

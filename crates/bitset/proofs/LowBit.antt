@@ -44,12 +44,6 @@ trailing-is-lowest v p h =
     let low : LowestOf 64 v (trailingZeros 64 v) = trailing-lowest 64 v p h in
     record { inside = low .0; set = low .1; below = low .2 }
 
-pub lowest-unique : (v b b′ : ℕ) → IsLowest v b → IsLowest v b′ → b ≡ b′
-lowest-unique v b b′ low low′ = omega (arith, before b b′ low low′, before b′ b low′ low)
-  where
-    before : (b b′ : ℕ) → IsLowest v b → IsLowest v b′ → ¬ (b < b′)
-    before b b′ low low′ h = omega (arith, low .set, low′ .below b h)
-
 -- ---- a word with one bit taken away
 
 -- how `1 << k` reads
@@ -60,9 +54,6 @@ one-shifted k h = shl-exact {a = 1} 1 k 64 (lit< tt) (omega arith) ∙ one-mul (
 pub toggled-by-shift : (ws : List ℕ) (c : ℕ) → set ws (c / bits) (bitXor (getD ws (c / bits) 0) ((1 * 2 ^ (c % bits)) % 2 ^ 64)) ≡ toggled ws c
 unfolding toggled
 toggled-by-shift ws c = ap (λ (x : ℕ). set ws (c / bits) (bitXor (getD ws (c / bits) 0) x)) (one-shifted (c % bits) (omega arith))
-
-pub one-shifted-lt : (k : ℕ) → k < bits → 2 ^ k < 2 ^ 64
-one-shifted-lt k h = pow-lt h
 
 and-power : (v k : ℕ) → bitAnd v (2 ^ k) ≡ digit v k * 2 ^ k
 unfolding digit
@@ -97,6 +88,3 @@ module _ (v k : ℕ) (h : k < bits) where
 
   pub bit-gone-less : digit v k ≡ 1 → bitXor v ((1 * 2 ^ k) % 2 ^ 64) < v
   bit-gone-less e = rw (one-shifted k h) (omega (arith, bit-and-rest v k e, pow-pos k))
-
-  pub bit-gone-word : v < 2 ^ 64 → bitXor v ((1 * 2 ^ k) % 2 ^ 64) < 2 ^ 64
-  bit-gone-word b = rw (one-shifted k h) (xor-lt 64 v (2 ^ k) b (one-shifted-lt k h))

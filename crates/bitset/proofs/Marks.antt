@@ -41,7 +41,7 @@ mark-past ws s h =
 pub member-inside : (ws : List ℕ) (s : ℕ) → mark ws s ≡ 1 → s < bits * length ws
 member-inside ws s e = by-cases (decLt s (bits * length ws)) (λ h. h) (λ past. absurd (omega (arith, mark-past ws s (omega arith))))
 
-zeros-at : (n k : ℕ) → _≡_ {A = ℕ} (getD (replicate n 0) k 0) 0
+pub zeros-at : (n k : ℕ) → _≡_ {A = ℕ} (getD (replicate n 0) k 0) 0
 zeros-at zero k = refl
 zeros-at (suc n) zero = refl
 zeros-at (suc n) (suc k) = zeros-at n k

@@ -1,6 +1,6 @@
 -- A run of words written one after the other from a place on, for a loop that stores one word a turn.
 -- What carries it: a store changes one place. Assumes nothing.
-use mathlib.Core.Path.{_≡_, refl, ap, _∙_}
+use mathlib.Core.Path.{_≡_, refl, ap, subst, _∙_}
 use mathlib.Core.Logic.{by-cases}
 use mathlib.Core.List.{List}
 use Prim.Native.Nat.{ℕ, _+_, _≤_, _<_}
@@ -8,13 +8,7 @@ use native.Mathlib.Decide.{ℕ-discrete}
 use native.Mathlib.Omega.{arith}
 use lib.ListN.{length, getD, set, length-set}
 use lib.Seq.{getD-set-same, getD-set-other}
-
--- z is x, but that the k words from place p on are as f says
-pub record Run (p k : ℕ) (f : ℕ → ℕ) (x z : List ℕ) : Type 0 where
-  pub long : length z ≡ length x
-  pub here : (i : ℕ) → i < k → getD z (p + i) 0 ≡ f i
-  pub before : (i : ℕ) → i < p → getD z i 0 ≡ getD x i 0
-  pub after : (i : ℕ) → p + k ≤ i → getD z i 0 ≡ getD x i 0
+pub use Rattle.bitset.specs.Runs.{Run}
 
 module _ (p : ℕ) (f : ℕ → ℕ) (x : List ℕ) where
   pub run-none : Run p 0 f x x
@@ -34,3 +28,7 @@ module _ (p : ℕ) (f : ℕ → ℕ) (x : List ℕ) where
 -- the words of a run from the first place on
 pub run-word : {k : ℕ} {f : ℕ → ℕ} {x z : List ℕ} → Run 0 k f x z → (i : ℕ) → i < k → getD z i 0 ≡ f i
 run-word {z = z} run i h = let there : i ≡ 0 + i = omega arith in ap (λ (n : ℕ). getD z n 0) there ∙ run .here i h
+
+-- the loop ends where all the words are written
+pub run-ends : {p n : ℕ} {f : ℕ → ℕ} {x z : List ℕ} (k : ℕ) → k ≡ n → Run p k f x z → Run p n f x z
+run-ends {p} {f = f} {x} {z} k e run = subst (λ (n : ℕ). Run p n f x z) e run

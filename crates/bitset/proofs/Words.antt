@@ -59,15 +59,6 @@ nothing-in-marks ws h s = mark-of-zero-word ws s (nothing-in-words ws h (s / bit
 pub marks-nothing-in : (ws : List ℕ) → ((k : ℕ) → getD ws k 0 < 2 ^ 64) → ((s : ℕ) → mark ws s ≡ 0) → nothingIn ws ≡ true
 marks-nothing-in ws below none = words-nothing-in ws (λ k. no-digits-zero (getD ws k 0) (below k) (λ b h. sym (mark-at ws k b h) ∙ none (bits * k + b)))
 
-pub nothing-in-iff : (ws : List ℕ) → ((k : ℕ) → getD ws k 0 < 2 ^ 64) → (nothingIn ws ≡ true) ↔ ((s : ℕ) → mark ws s ≢ 1)
-nothing-in-iff ws below = (forth, back)
-  where
-    forth : nothingIn ws ≡ true → (s : ℕ) → mark ws s ≢ 1
-    forth h s e = omega (arith, nothing-in-marks ws h s)
-
-    back : ((s : ℕ) → mark ws s ≢ 1) → nothingIn ws ≡ true
-    back none = marks-nothing-in ws below (λ s. omega (arith, none s, mark-lt-two ws s))
-
 -- ---- words stay below 2 ^ 64
 
 pub sum-words : (x y : List ℕ) → length x ≡ length y → ((k : ℕ) → getD x k 0 < 2 ^ 64) → ((k : ℕ) → getD y k 0 < 2 ^ 64)

@@ -18,6 +18,10 @@ bits = 64
 abbrev pub wordsFor : ℕ → ℕ
 wordsFor n = (n + 63) / bits
 
+-- the words of a largest set
+abbrev pub fullWidth : ℕ
+fullWidth = 8
+
 -- binary digit k of n, 0 or 1
 unfoldable pub digit : ℕ → ℕ → ℕ
 digit n k = n / 2 ^ k % 2
@@ -59,3 +63,11 @@ TopIs ws (Cell m) = IsGreatest ws m
 unfoldable pub nothingIn : List ℕ → Bool
 nothingIn [] = true
 nothingIn (x ∷ xs) = eqb x 0 && nothingIn xs
+
+-- every member of xs is in ys; and r says whether it is so
+abbrev pub Inside : List ℕ → List ℕ → Type 0
+Inside xs ys = (s : ℕ) → mark xs s ≡ 1 → mark ys s ≡ 1
+
+pub record IsWithin (xs ys : List ℕ) (r : Bool) : Type 0 where
+  pub says : r ≡ true → Inside xs ys
+  pub said : Inside xs ys → r ≡ true

@@ -3,7 +3,18 @@
 ghost use mathlib.Core.Path.{_≡_};
 ghost use Prim.Native.Nat.{_*_, _/_, _^_, _≤_, _<_};
 ghost use lib.ListN.{length};
-ghost use Rattle.bitset.specs.Bits.{wordsFor, member, toggled, sumOf, IsLowest, TopIs, nothingIn};
+ghost use Rattle.bitset.specs.Bits.{wordsFor, fullWidth, member, toggled, sumOf, IsLowest, TopIs, nothingIn, IsWithin};
+
+mod matrix;
+
+pub use matrix::add_kept;
+pub use matrix::add_row;
+pub use matrix::keep_row;
+pub use matrix::start_row;
+
+// Words in a largest set. A loop that is told this number is unrolled and keeps its words in registers, which a width that is known
+// only as it runs does not allow; so the functions that add or copy sets ask for it first.
+pub const FULL: usize = 8;
 
 // The largest member of a set, where it has one.
 pub enum Top {
@@ -43,8 +54,21 @@ pub fn add(into: &mut [u64], from: &[u64])
     requires { ⌜ length (now into) ≡ length (now from) ⌝ }
     ensures { λ _. ⌜ now (into .exit) ≡ sumOf (now (into .entry)) (now (from .entry)) ⌝ }
 {
+    let n = from.len();
+    if n == FULL {
+        return add_first(into, from, FULL);
+    }
+    add_first(into, from, n)
+}
+
+// The same, told how many words there are.
+fn add_first(into: &mut [u64], from: &[u64], n: usize)
+    requires { ⌜ length (now into) ≡ length (now from) ⌝ }
+    requires { ⌜ n ≡ length (now from) ⌝ }
+    ensures { λ _. ⌜ now (into .exit) ≡ sumOf (now (into .entry)) (now (from .entry)) ⌝ }
+{
     let mut w = 0;
-    while w < from.len() {
+    while w < n {
         into[w] = into[w] ^ from[w];
         w += 1;
     }
@@ -81,6 +105,21 @@ pub fn is_empty(ws: &[u64]) -> bool
     true
 }
 
+// Whether every member of the first set is in the second, which has as many words at least: word by word.
+pub fn within(xs: &[u64], ys: &[u64]) -> bool
+    requires { ⌜ length (now xs) ≤ length (now ys) ⌝ }
+    ensures { λ r. ⌜ IsWithin (now (xs .entry)) (now (ys .entry)) r ⌝ }
+{
+    let mut k = 0;
+    while k < xs.len() {
+        if xs[k] | ys[k] != ys[k] {
+            return false;
+        }
+        k += 1;
+    }
+    true
+}
+
 // The lowest bit of a word that is not 0.
 pub fn lowest(v: u64) -> usize
     requires { ⌜ 0 < v ⌝ }
@@ -88,3 +127,8 @@ pub fn lowest(v: u64) -> usize
 {
     u64::trailing_zeros(v) as usize
 }
+
+// The number of the code is that of the definitions.
+fn same_numbers()
+    ensures { λ _. do ⌜ (← ⟦FULL⟧ .entry) ≡ fullWidth ⌝ }
+{}

@@ -13,7 +13,7 @@ use Rattle.table.specs.Kind.{faces}
 use Rattle.table.specs.Table.{cellsOf, dim, face}
 use Rattle.table.proofs.Words.{table-by-records}
 use Rattle.table.proofs.Records.{live-says}
-use Rattle.table.specs.declared.Verdict.the-variants.{Accepted}
+use Rattle.calls.specs.declared.Verdict.the-variants.{Accepted}
 use Rattle.cone.specs.Cone.{apexOf, coneOf, coned, coneVerdict}
 use Rattle.building.specs.ConeRule.{IsCone}
 use Rattle.cone.proofs.Acceptance.{Accepts, cone-accepted}
@@ -93,8 +93,7 @@ module _ (t marks : List ℕ) (acc : Accepts t marks) (a a′ : ℕ) (κ κ′ :
     apexes,
     cones,
     table-by-records u u′ (cellsOf t) (x .size ∙ acc .valid .sized .whole) (y .size ∙ acc .valid .sized .whole)
-        (λ c h. dims-by c (sorted c h))
-        (λ c j h l. faces-by c j l (sorted c h)),
+        (λ c h. record { same-dim = dims-by c (sorted c h); same-face = λ j l. faces-by c j l (sorted c h) }),
   )
 
 -- so what an accepted call names and leaves is all that the published rule permits

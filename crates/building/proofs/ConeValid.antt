@@ -11,11 +11,11 @@ use native.Mathlib.Omega.{arith}
 use Rattle.bitset.specs.Bits.{member}
 use Rattle.table.specs.Kind.{top, faces, width, freeMark, used}
 use Rattle.table.specs.Table.{cellsOf, dim, face, Live, Valid}
-use Rattle.table.specs.Calls.{leaves}
-use Rattle.table.specs.declared.Verdict.{Verdict}
-use Rattle.table.specs.declared.Verdict.the-variants.{Accepted, Refused}
+use Rattle.calls.specs.Calls.{leaves}
+use Rattle.calls.specs.declared.Verdict.{Verdict}
+use Rattle.calls.specs.declared.Verdict.the-variants.{Accepted, Refused}
 use Rattle.table.proofs.Records.{live-says}
-use Rattle.audit.proofs.Places.{used-is, used-says}
+use Rattle.table.proofs.Places.{used-is, used-says}
 use Rattle.cone.specs.Cone.{free, apexOf, coneOf, coned, coneVerdict, coneLeaves}
 use Rattle.building.specs.ConeRule.{IsCone}
 use Rattle.cone.proofs.Acceptance.{Accepts, cone-accepted}

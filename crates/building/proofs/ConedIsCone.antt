@@ -13,36 +13,33 @@ use lib.Dec.{eqb, ltb}
 use Rattle.bitset.specs.Bits.{member}
 use Rattle.table.specs.Kind.{faces, width, freeMark, used}
 use Rattle.table.specs.Table.{cellsOf, dim, face, live}
-use Rattle.table.specs.declared.Verdict.the-variants.{Accepted}
+use Rattle.table.specs.Records.{Record, recordAt}
+use Rattle.calls.specs.declared.Verdict.the-variants.{Accepted}
 use Rattle.table.proofs.Words.{length-tableOf, dim-tableOf, face-tableOf}
 use Rattle.table.proofs.Records.{live-true}
-use Rattle.audit.proofs.Places.{used-says}
+use Rattle.table.proofs.Places.{used-says}
 use Rattle.counting.specs.Counting.{howMany, pick}
-use Rattle.cone.specs.Cone.{free, apexOf, coneOf, baseOf, newCells, coneFace, given, coned, coneVerdict}
+use Rattle.cone.specs.Cone.{free, apexOf, coneOf, baseOf, newCells, coneFace, given, coned, coneVerdict, pointRecord, coneRecord}
 use Rattle.building.specs.ConeRule.{Earlier, IsCone}
 use Rattle.counting.proofs.Cases.{true-or-false, and-right}
 use Rattle.cone.proofs.Acceptance.{Accepts, cone-accepted}
 use Rattle.cone.proofs.GivenNumbers.{free-inside, live-not-free, apex-is-free, apex-is-lowest, apex-given, cone-is-free, cone-given, apex-below-cone, cones-rise, base-of-cone, base-marked, cone-of-base, below-given, base-before}
 
 module _ (t marks : List ℕ) where
-  abbrev newDim : ℕ → ℕ
-  newDim c = pick (given t marks c) (pick (eqb c (apexOf t)) 0 (suc (dim t (baseOf t marks c)))) (dim t c)
-
-  abbrev newFace : ℕ → ℕ → ℕ
-  newFace c j =
-      pick (given t marks c) (pick (eqb c (apexOf t)) freeMark (coneFace t marks (baseOf t marks c) j)) (face t c j)
+  abbrev newRecord : ℕ → Record
+  newRecord c = pick (given t marks c) (pick (eqb c (apexOf t)) pointRecord (coneRecord t marks (baseOf t marks c))) (recordAt t c)
 
   length-coned : length (coned t marks) ≡ cellsOf t * width
   unfolding coned
-  length-coned = length-tableOf (cellsOf t) newDim newFace
+  length-coned = length-tableOf (cellsOf t) newRecord
 
-  dim-coned : (c : ℕ) → c < cellsOf t → dim (coned t marks) c ≡ newDim c
+  dim-coned : (c : ℕ) → c < cellsOf t → dim (coned t marks) c ≡ newRecord c .dim
   unfolding coned
-  dim-coned c h = dim-tableOf (cellsOf t) newDim newFace c h
+  dim-coned c h = dim-tableOf (cellsOf t) newRecord c h
 
-  face-coned : (c j : ℕ) → c < cellsOf t → j < faces → face (coned t marks) c j ≡ newFace c j
+  face-coned : (c j : ℕ) → c < cellsOf t → j < faces → face (coned t marks) c j ≡ newRecord c .face j
   unfolding coned
-  face-coned c j h l = face-tableOf (cellsOf t) newDim newFace c j h l
+  face-coned c j h l = face-tableOf (cellsOf t) newRecord c j h l
 
   -- a record that is not given out stays
   kept-dim : (c : ℕ) → c < cellsOf t → given t marks c ≡ false → dim (coned t marks) c ≡ dim t c

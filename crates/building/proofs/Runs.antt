@@ -3,15 +3,11 @@
 -- induction on the run. Assumes nothing.
 use mathlib.Core.Path.{_≡_, refl, sym, ap, subst, _∙_}
 use mathlib.Core.List.{List, [], _∷_}
-use Prim.Native.Nat.{ℕ, _*_, _≤_}
-use lib.ListN.{replicate}
-use Rattle.table.specs.Kind.{capacity, width, freeMark}
+use Prim.Native.Nat.{ℕ}
 use Rattle.table.specs.Table.{Valid}
-use Rattle.table.specs.Calls.{onVerdict}
-use Rattle.table.specs.declared.Refusal.{Refusal}
-use Rattle.table.specs.declared.Verdict.{Verdict}
-use Rattle.table.specs.declared.Verdict.the-variants.{Accepted, Refused}
-use Rattle.audit.proofs.Empties.{empty-is-valid}
+use Rattle.calls.specs.Calls.{leaves}
+use Rattle.calls.specs.declared.Verdict.{Verdict}
+use Rattle.calls.specs.declared.Verdict.the-variants.{Accepted, Refused}
 use Rattle.merge.specs.Merge.{IsIdentification, mergeVerdict, merged, mergeLeaves}
 use Rattle.merge.proofs.Identification.{identification-determines}
 use Rattle.merge.proofs.Answers.{mergeLeaves-valid, merge-accepted-leaves}
@@ -20,51 +16,61 @@ use Rattle.building.specs.ConeRule.{IsCone}
 use Rattle.building.proofs.ConedIsCone.{accepted-is-cone}
 use Rattle.building.proofs.ConeDetermines.{rule-gives-coned}
 use Rattle.building.proofs.ConeValid.{coneLeaves-valid}
-use Rattle.building.specs.Runs.{Request, Step, Run, leftBy, calls}
+use Rattle.building.specs.Runs.{Request, Rule, verdictOn, Step, Run, leftBy, calls, Exactly}
 use Rattle.building.specs.Runs.Request.{coneOver, mergeOf}
-use Rattle.building.specs.Runs.Step.{cone-refused, cone-built, merge-refused, merge-made}
+use Rattle.building.specs.Runs.Rule.{by-cone, by-identification}
+use Rattle.building.specs.Runs.Step.{refused, made}
 use Rattle.building.specs.Runs.Run.{done, more}
 
--- what a verdict picks, once it is known
-picked : {A : Type 0} (v w : Verdict) (a : A) (f : Refusal → A) → v ≡ w → onVerdict v a f ≡ onVerdict w a f
-picked v w a f e = ap (λ (x : Verdict). onVerdict x a f) e
+-- ---- what each call brings along
 
--- one call keeps a table valid
+-- what a granted request makes of the table
+abbrev madeBy : List ℕ → Request → List ℕ
+madeBy t (coneOver marks) = coned t marks
+madeBy t (mergeOf a b) = merged t a b
+
+left-is : (t : List ℕ) (r : Request) → leftBy t r ≡ leaves (verdictOn t r) (madeBy t r) t
+left-is t (coneOver marks) = refl
+left-is t (mergeOf a b) = refl
+
+-- it is what the rule gives,
+made-by-rule : (t : List ℕ) (r : Request) → verdictOn t r ≡ Accepted → Rule t r (leftBy t r)
+made-by-rule t (coneOver marks) e =
+    by-cone (apexOf t) (coneOf t marks)
+    (subst (λ (u : List ℕ). IsCone t marks (apexOf t) (coneOf t marks) u) (sym (ap (λ (v : Verdict). leaves v (coned t marks) t) e)) (accepted-is-cone t marks e))
+made-by-rule t (mergeOf a b) e = by-identification (merge-accepted-leaves t a b e)
+
+-- the rule gives nothing else,
+rule-is-made : {t u : List ℕ} {r : Request} → Valid t → verdictOn t r ≡ Accepted → Rule t r u → u ≡ leftBy t r
+rule-is-made {t} {u} v e (by-cone {marks = marks} apex κ x) =
+    rule-gives-coned t marks e apex κ u x .1 ∙ sym (ap (λ (w : Verdict). leaves w (coned t marks) t) e)
+rule-is-made {t} {u} v e (by-identification {a = a} {b = b} x) =
+    identification-determines t a b u (mergeLeaves t a b) (v .sized) x (merge-accepted-leaves t a b e)
+
+-- and the table stays valid.
 pub call-keeps-valid : (t : List ℕ) (r : Request) → Valid t → Valid (leftBy t r)
 call-keeps-valid t (coneOver marks) v = coneLeaves-valid t marks v
 call-keeps-valid t (mergeOf a b) v = mergeLeaves-valid t a b v
 
+-- ---- one step, whatever the call
+
+refused-leaves : (t : List ℕ) (r : Request) (v : Verdict) → verdictOn t r ≡ v → leftBy t r ≡ leaves v (madeBy t r) t
+refused-leaves t r v e = left-is t r ∙ ap (λ (w : Verdict). leaves w (madeBy t r) t) e
+
 -- what one call leaves is a step of the rules
 pub call-is-step : (t : List ℕ) (r : Request) → Step t r (leftBy t r)
-call-is-step t (coneOver marks) = go (coneVerdict t marks) refl
+call-is-step t r = go (verdictOn t r) refl
   where
-    go : (v : Verdict) → coneVerdict t marks ≡ v → Step t (coneOver marks) (coneLeaves t marks)
-    go Accepted e =
-        subst (λ (u : List ℕ). Step t (coneOver marks) u) (sym (picked _ _ (coned t marks) (λ r. t) e))
-        (cone-built (apexOf t) (coneOf t marks) e (accepted-is-cone t marks e))
-    go (Refused r) e =
-        subst (λ (u : List ℕ). Step t (coneOver marks) u) (sym (picked _ _ (coned t marks) (λ r. t) e)) (cone-refused r e)
-call-is-step t (mergeOf a b) = go (mergeVerdict t a b) refl
-  where
-    go : (v : Verdict) → mergeVerdict t a b ≡ v → Step t (mergeOf a b) (mergeLeaves t a b)
-    go Accepted e = merge-made e (merge-accepted-leaves t a b e)
-    go (Refused r) e =
-        subst (λ (u : List ℕ). Step t (mergeOf a b) u) (sym (picked _ _ (merged t a b) (λ r. t) e)) (merge-refused r e)
+    go : (v : Verdict) → verdictOn t r ≡ v → Step t r (leftBy t r)
+    go Accepted e = made e (made-by-rule t r e)
+    go (Refused x) e = subst (λ (u : List ℕ). Step t r u) (sym (refused-leaves t r (Refused x) e)) (refused x e)
 
 -- and the rules permit no other
 pub step-is-call : {t u : List ℕ} {r : Request} → Valid t → Step t r u → u ≡ leftBy t r
-step-is-call {t} v (cone-refused {marks = marks} r e) = sym (picked _ _ (coned t marks) (λ x. t) e)
-step-is-call {t} {u} v (cone-built {marks = marks} apex κ e x) =
-    rule-gives-coned t marks e apex κ u x .1 ∙ sym (picked _ _ (coned t marks) (λ r. t) e)
-step-is-call {t} v (merge-refused {a = a} {b = b} r e) = sym (picked _ _ (merged t a b) (λ x. t) e)
-step-is-call {t} {u} v (merge-made {a = a} {b = b} e x) =
-    identification-determines t a b u (mergeLeaves t a b) (v .sized) x (merge-accepted-leaves t a b e)
+step-is-call {t} v (refused {r = r} x e) = sym (refused-leaves t r (Refused x) e)
+step-is-call v (made e x) = rule-is-made v e x
 
--- any run of calls, refused ones included, leaves a valid table
-pub run-keeps-valid : (t : List ℕ) (rs : List Request) → Valid t → Valid (calls t rs)
-unfolding calls
-run-keeps-valid t [] v = v
-run-keeps-valid t (r ∷ rs) v = run-keeps-valid (leftBy t r) rs (call-keeps-valid t r v)
+-- ---- any run
 
 -- what the calls leave is what the published rules give,
 pub calls-follow-rules : (t : List ℕ) (rs : List Request) → Run t rs (calls t rs)
@@ -73,13 +79,19 @@ calls-follow-rules t [] = done
 calls-follow-rules t (r ∷ rs) = more (call-is-step t r) (calls-follow-rules (leftBy t r) rs)
 
 -- and they give nothing else
-pub rules-give-calls : {t u : List ℕ} {rs : List Request} → Valid t → Run t rs u → u ≡ calls t rs
+rules-give-calls : {t u : List ℕ} {rs : List Request} → Valid t → Run t rs u → u ≡ calls t rs
 unfolding calls
 rules-give-calls v done = refl
 rules-give-calls {t} v (more {r = r} {rs = rs} s run) =
     let e = step-is-call v s in
     rules-give-calls (subst Valid (sym e) (call-keeps-valid t r v)) run ∙ ap (λ (x : List ℕ). calls x rs) e
 
--- from an empty table of n cells
-pub run-from-empty : (n : ℕ) (rs : List Request) → 1 ≤ n → n ≤ capacity → Valid (calls (replicate (n * width) freeMark) rs)
-run-from-empty n rs h k = run-keeps-valid (replicate (n * width) freeMark) rs (empty-is-valid n h k)
+-- THEOREM: from a valid table, what any run of calls leaves, refused ones included, is exactly what the published rules give,
+pub runs-are-exact : (t : List ℕ) (rs : List Request) → Valid t → Exactly t rs (calls t rs)
+runs-are-exact t rs v = record { given = calls-follow-rules t rs; only = λ u run. rules-give-calls v run }
+
+-- and it is valid.
+pub run-keeps-valid : (t : List ℕ) (rs : List Request) → Valid t → Valid (calls t rs)
+unfolding calls
+run-keeps-valid t [] v = v
+run-keeps-valid t (r ∷ rs) v = run-keeps-valid (leftBy t r) rs (call-keeps-valid t r v)

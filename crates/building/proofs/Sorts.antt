@@ -14,7 +14,7 @@ use Rattle.bitset.specs.Bits.{member}
 use Rattle.table.specs.Kind.{top, used}
 use Rattle.table.specs.Table.{cellsOf, live, Live}
 use Rattle.table.proofs.Records.{live-true}
-use Rattle.audit.proofs.Places.{used-is}
+use Rattle.table.proofs.Places.{used-is}
 use Rattle.counting.specs.Counting.{someHas}
 use Rattle.cone.specs.Cone.{free}
 use Rattle.counting.proofs.Cases.{below-or-not, and-both, and-left, and-right}

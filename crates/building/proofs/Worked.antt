@@ -6,11 +6,11 @@ use mathlib.Core.List.{List, [], _∷_, _++_}
 use Prim.Native.Nat.{ℕ}
 use Rattle.bitset.specs.Bits.{digit, mark, member}
 use Rattle.table.specs.Kind.{freeMark}
-use Rattle.table.specs.Table.{live}
-use Rattle.table.specs.Words.{listed, wordOf, tableOf}
-use Rattle.table.specs.Audit.{all, scan, recordSound, faceSound, lawSound, recordBreach, faceBreach, lawBreach, cellBreach, firstBreach, sized, sound}
-use Rattle.table.specs.declared.Verdict.the-variants.{Accepted}
-use Rattle.counting.specs.Counting.{howMany, nth, someHas}
+use Rattle.table.specs.Table.{live, sized}
+use Rattle.counting.specs.Counting.{listed, all, howMany, nth, someHas}
+use Rattle.table.specs.Records.{wordOf, tableOf}
+use Rattle.audit.specs.Audit.{scan, recordSound, faceSound, lawSound, recordBreach, faceBreach, lawBreach, cellBreach, firstBreach, sound}
+use Rattle.calls.specs.declared.Verdict.the-variants.{Accepted}
 use Rattle.cone.specs.Cone.{free, apexOf, coneOf, baseOf, newCells, coneFace, coned, markedNotLive, notClosed, topMarked, noRoom, coneVerdict}
 
 abbrev blank : List ℕ

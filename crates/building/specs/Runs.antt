@@ -4,8 +4,9 @@
 use mathlib.Core.Path.{_≡_}
 use mathlib.Core.List.{List, [], _∷_}
 use Prim.Native.Nat.{ℕ}
-use Rattle.table.specs.declared.Refusal.{Refusal}
-use Rattle.table.specs.declared.Verdict.the-variants.{Accepted, Refused}
+use Rattle.calls.specs.declared.Refusal.{Refusal}
+use Rattle.calls.specs.declared.Verdict.{Verdict}
+use Rattle.calls.specs.declared.Verdict.the-variants.{Accepted, Refused}
 use Rattle.merge.specs.Merge.{IsIdentification, mergeVerdict, mergeLeaves}
 use Rattle.cone.specs.Cone.{coneVerdict, coneLeaves}
 use Rattle.building.specs.ConeRule.{IsCone}
@@ -15,13 +16,20 @@ pub data Request : Type 0 where
   coneOver : List ℕ → Request
   mergeOf : ℕ → ℕ → Request
 
--- What the published rules make of a table by one request. It is refused exactly where the list of refusals says so, and then
--- nothing changes.
+-- What the published rules make of a table by a request that is granted.
+pub data Rule : List ℕ → Request → List ℕ → Type 0 where
+  by-cone : {t marks t′ : List ℕ} (apex : ℕ) (cone : ℕ → ℕ) → IsCone t marks apex cone t′ → Rule t (coneOver marks) t′
+  by-identification : {t t′ : List ℕ} {a b : ℕ} → IsIdentification t a b t′ → Rule t (mergeOf a b) t′
+
+-- what the list of refusals says of a request
+abbrev pub verdictOn : List ℕ → Request → Verdict
+verdictOn t (coneOver marks) = coneVerdict t marks
+verdictOn t (mergeOf a b) = mergeVerdict t a b
+
+-- One request: where the list of refusals refuses it nothing changes, else the table is what the rules give.
 pub data Step : List ℕ → Request → List ℕ → Type 0 where
-  cone-refused : {t marks : List ℕ} (r : Refusal) → coneVerdict t marks ≡ Refused r → Step t (coneOver marks) t
-  cone-built : {t marks t′ : List ℕ} (apex : ℕ) (cone : ℕ → ℕ) → coneVerdict t marks ≡ Accepted → IsCone t marks apex cone t′ → Step t (coneOver marks) t′
-  merge-refused : {t : List ℕ} {a b : ℕ} (r : Refusal) → mergeVerdict t a b ≡ Refused r → Step t (mergeOf a b) t
-  merge-made : {t t′ : List ℕ} {a b : ℕ} → mergeVerdict t a b ≡ Accepted → IsIdentification t a b t′ → Step t (mergeOf a b) t′
+  refused : {t : List ℕ} {r : Request} (x : Refusal) → verdictOn t r ≡ Refused x → Step t r t
+  made : {t t′ : List ℕ} {r : Request} → verdictOn t r ≡ Accepted → Rule t r t′ → Step t r t′
 
 -- the published rules, one request after the other
 pub data Run : List ℕ → List Request → List ℕ → Type 0 where
@@ -37,3 +45,8 @@ leftBy t (mergeOf a b) = mergeLeaves t a b
 unfoldable pub calls : List ℕ → List Request → List ℕ
 calls t [] = t
 calls t (r ∷ rs) = calls (leftBy t r) rs
+
+-- t′ is exactly what the published rules give from t by the requests rs: they give it, and nothing else
+pub record Exactly (t : List ℕ) (rs : List Request) (t′ : List ℕ) : Type 0 where
+  pub given : Run t rs t′
+  pub only : (u : List ℕ) → Run t rs u → u ≡ t′

@@ -9,14 +9,14 @@ use Rattle.homology.specs.Cells.{odd}
 use Rattle.homology.specs.Holes.{boundary}
 use Rattle.homology.specs.Evidence.{cellsIn, boundingIn, holesIn}
 use Rattle.bitset.specs.Bits.{digit, mark, member, toggled, sumOf}
-use Rattle.counting.specs.Counting.{howMany, nth, someHas}
-use Rattle.table.specs.Table.{live}
-use Rattle.table.specs.Words.{listed, wordOf, tableOf}
-use Rattle.table.specs.Audit.{all, scan, recordSound, faceSound, lawSound, recordBreach, faceBreach, lawBreach, cellBreach, firstBreach, sized, sound}
-use Rattle.complex.specs.Cells.{oddFace}
+use Rattle.counting.specs.Counting.{howMany, nth, someHas, listed, all}
+use Rattle.table.specs.Table.{live, sized}
+use Rattle.table.specs.Records.{wordOf, tableOf}
+use Rattle.audit.specs.Audit.{scan, recordSound, faceSound, lawSound, recordBreach, faceBreach, lawBreach, cellBreach, firstBreach, sound}
+use Rattle.complex.specs.View.{oddFace}
 use Rattle.rows.specs.Rows.{rowOf, rows}
 use Rattle.reducer.specs.Rule.{alone, additionsIn}
-use Rattle.reducer.proofs.Computed.{highestBelow, boundaryHeight, owner, afterSearch, addRows, nextRow, withRow, rowsBelow, reducedEvidence, reducedAdditions}
+use Rattle.reducer.proofs.Computed.{largestBelow, boundaryHeight, owner, afterSearch, addRows, nextRow, withRow, rowsBelow, reducedEvidence, reducedAdditions}
 use Rattle.merge.specs.Rename.{renamed, identify}
 use Rattle.merge.specs.Merge.{sameFaces, mergeVerdict, merged}
 use Rattle.cone.specs.Cone.{free, apexOf, coneOf, baseOf, newCells, coneFace, coned, markedNotLive, notClosed, topMarked, noRoom, coneVerdict}
@@ -30,7 +30,7 @@ use Rattle.cases.proofs.Tested.{every, validWords, goes, holesAre, inci
 
 -- one computation for each entry, in order, so that a refusal names the entry
 each-case-passes : Each Passes cases
-unfolding cases every test validWords goes holesAre incidenceIs additionsAre numbersAre sameWords sameInteger isSum sameAnswer odd howMany boundary someHas cellsIn boundingIn holesIn digit mark member toggled sumOf nth live listed wordOf tableOf all scan recordSound faceSound lawSound recordBreach faceBreach lawBreach cellBreach firstBreach sized sound oddFace rowOf rows alone additionsIn highestBelow boundaryHeight owner afterSearch addRows nextRow withRow rowsBelow reducedEvidence reducedAdditions renamed identify sameFaces mergeVerdict merged free apexOf coneOf baseOf newCells coneFace coned markedNotLive notClosed topMarked noRoom coneVerdict sumTo sign incidenceOf
+unfolding cases every test validWords goes holesAre incidenceIs additionsAre numbersAre sameWords sameInteger isSum sameAnswer odd howMany boundary someHas cellsIn boundingIn holesIn digit mark member toggled sumOf nth live listed wordOf tableOf all scan recordSound faceSound lawSound recordBreach faceBreach lawBreach cellBreach firstBreach sized sound oddFace rowOf rows alone additionsIn largestBelow boundaryHeight owner afterSearch addRows nextRow withRow rowsBelow reducedEvidence reducedAdditions renamed identify sameFaces mergeVerdict merged free apexOf coneOf baseOf newCells coneFace coned markedNotLive notClosed topMarked noRoom coneVerdict sumTo sign incidenceOf
 each-case-passes =
     refl  -- 1
     then refl  -- 2

@@ -14,9 +14,10 @@ use Rattle.homology.specs.Holes.{IsHoleNumber}
 use Rattle.homology.specs.Evidence.{holesIn}
 use Rattle.homology.proofs.HoleTheorem.{holes-are-hole-numbers}
 use Rattle.table.specs.Kind.{top}
-use Rattle.table.specs.Table.{cellsOf, Valid}
-use Rattle.table.specs.Audit.{all, sized, sound}
-use Rattle.audit.proofs.Scans.{all-true}
+use Rattle.table.specs.Table.{cellsOf, Valid, sized}
+use Rattle.counting.specs.Counting.{all}
+use Rattle.audit.specs.Audit.{sound}
+use Rattle.counting.proofs.Tests.{all-true}
 use Rattle.audit.proofs.Valid.{sound-is-valid}
 use Rattle.complex.specs.Cells.{cells}
 use Rattle.complex.proofs.Boundary.{valid-is-lawful}
@@ -50,19 +51,19 @@ goes t nothing u = sameWords t u
 goes t (call r a) u = sameAnswer (told (answerTo t r)) a && sameWords (leftBy t r) u
 
 unfoldable pub holesAre : List ℕ → List ℕ → List ℕ → Bool
-holesAre t ev hs = all (top + 1) (λ p. eqb (holesIn (cells t) (rows t ev) p) (getD hs p 0))
+holesAre t ev hs = all (top + 1) (λ p. eqb (holesIn (cells t) (rows (cells t) ev) p) (getD hs p 0))
 
 unfoldable pub incidenceIs : List ℕ → Incidence → Bool
 incidenceIs t i = isSum (incidenceAnswer t (i .cell) (i .face)) (i .value)
 
 unfoldable pub additionsAre : List ℕ → Counts → Bool
 additionsAre t unnamed = true
-additionsAre t (seven ns) = sameWords ns (counts (λ p. additionsIn t (reducedAdditions t) p (cellsOf t)))
+additionsAre t (seven ns) = sameWords ns (counts (λ p. additionsIn (cells t) (reducedAdditions (cells t)) p (cellsOf t)))
 
 -- the numbers of the table after
 unfoldable pub numbersAre : Case → Bool
 numbersAre e =
-    holesAre (e .after) (reducedEvidence (e .after)) (e .holes)
+    holesAre (e .after) (reducedEvidence (cells (e .after))) (e .holes)
     && (every (incidenceIs (e .after)) (e .incidences) && additionsAre (e .after) (e .additions))
 
 unfoldable pub test : Case → Bool
@@ -101,14 +102,14 @@ goes-valid t (call r a) u v e = subst Valid (goes-to t r a u e) (call-keeps-vali
 
 -- the count that the test compares
 abbrev counted : List ℕ → ℕ → ℕ
-counted t p = holesIn (cells t) (rows t (reducedEvidence t)) p
+counted t p = holesIn (cells t) (rows (cells t) (reducedEvidence (cells t))) p
 
-holes-are : (t hs : List ℕ) → Valid t → holesAre t (reducedEvidence t) hs ≡ true → (p : ℕ) → p ≤ top → IsHoleNumber (cells t) p (getD hs p 0)
+holes-are : (t hs : List ℕ) → Valid t → holesAre t (reducedEvidence (cells t)) hs ≡ true → (p : ℕ) → p ≤ top → IsHoleNumber (cells t) p (getD hs p 0)
 unfolding holesAre
 holes-are t hs v e p l =
     subst (IsHoleNumber (cells t) p)
     (eqb-true (counted t p) (getD hs p 0) (all-true (λ k. eqb (counted t k) (getD hs k 0)) (top + 1) e p (omega arith)))
-    (holes-are-hole-numbers (cells t) (valid-is-lawful t v) (rows t (reducedEvidence t)) (reduced-meets t v) p)
+    (holes-are-hole-numbers (cells t) (valid-is-lawful t v) (rows (cells t) (reducedEvidence (cells t))) (reduced-meets (cells t) (valid-is-lawful t v)) p)
 
 incidence-is : (t : List ℕ) (i : Incidence) → incidenceIs t i ≡ true → IncidenceIs t i
 unfolding incidenceIs
@@ -118,11 +119,11 @@ additions-are : (t : List ℕ) (ns : Counts) → Valid t → additionsAre t ns �
 unfolding additionsAre
 additions-are t unnamed v e = tt
 additions-are t (seven ns) v e = (
-  reducedEvidence t,
+  reducedEvidence (cells t),
   record {
-    adds = reducedAdditions t;
-    by-rule = reduced-by-rule t v;
-    counted = same-words ns (counts (λ p. additionsIn t (reducedAdditions t) p (cellsOf t))) e;
+    adds = reducedAdditions (cells t);
+    by-rule = reduced-by-rule (cells t) (valid-is-lawful t v);
+    counted = same-words ns (counts (λ p. additionsIn (cells t) (reducedAdditions (cells t)) p (cellsOf t))) e;
   },
 )
 
@@ -130,7 +131,7 @@ additions-are t (seven ns) v e = (
 
 module _ (e : Case) where
   abbrev passesHoles : Bool
-  passesHoles = holesAre (e .after) (reducedEvidence (e .after)) (e .holes)
+  passesHoles = holesAre (e .after) (reducedEvidence (cells (e .after))) (e .holes)
 
   abbrev passesIncidences : Bool
   passesIncidences = every (incidenceIs (e .after)) (e .incidences)

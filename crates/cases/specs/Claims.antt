@@ -8,9 +8,9 @@ use lib.ListN.{getD}
 use Rattle.homology.specs.Holes.{IsHoleNumber}
 use Rattle.table.specs.Kind.{top}
 use Rattle.table.specs.Table.{Valid}
-use Rattle.table.specs.Numbers.{numberOf}
-use Rattle.table.specs.declared.Named.{Named}
-use Rattle.table.specs.declared.Named.the-variants.{Cell, NoCell}
+use Rattle.calls.specs.Numbers.{numberOf}
+use Rattle.calls.specs.declared.Named.{Named}
+use Rattle.calls.specs.declared.Named.the-variants.{Cell, NoCell}
 use Rattle.complex.specs.Cells.{cells}
 use Rattle.reducer.specs.Reduce.{Reduction}
 use Rattle.merge.specs.Merge.{mergeAnswer}
@@ -58,7 +58,7 @@ IncidenceIs t i = incidenceAnswer t (i .cell) (i .face) ≡ Is (i .value)
 -- there is evidence by the reducer's rule, with these additions
 abbrev pub ReducedWith : List ℕ → Counts → Type 0
 ReducedWith t unnamed = Unit {0}
-ReducedWith t (seven ns) = (ev : List ℕ) × Reduction t ev ns
+ReducedWith t (seven ns) = (ev : List ℕ) × Reduction (cells t) ev ns
 
 -- what an entry claims
 pub record Holds (e : Case) : Type 0 where

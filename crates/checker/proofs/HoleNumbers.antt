@@ -6,31 +6,25 @@ use Prim.Native.Nat.{ℕ, suc, _+_, _≤_}
 use native.Mathlib.Omega.{arith}
 use lib.ListN.{getD}
 use Rattle.homology.specs.Holes.{IsHoleNumber}
-use Rattle.homology.specs.Evidence.{Meets, cellsIn, boundingIn, holesIn}
-use Rattle.homology.proofs.HoleTheorem.{holes-are-hole-numbers, bounding-cells-fit, no-bounding-above}
+use Rattle.homology.specs.Evidence.{cellsIn, boundingIn, holesIn}
+use Rattle.homology.proofs.HoleTheorem.{holes-are-hole-numbers, no-bounding-above}
 use Rattle.table.specs.Kind.{top}
 use Rattle.table.specs.Table.{Valid}
-use Rattle.table.proofs.Words.{getD-listed}
-use Rattle.table.specs.declared.Verdict.the-variants.{Accepted}
+use Rattle.counting.proofs.Listed.{getD-listed}
+use Rattle.calls.specs.declared.Verdict.the-variants.{Accepted}
+use Rattle.complex.specs.View.{View, Frame, viewed}
 use Rattle.complex.specs.Cells.{cells}
 use Rattle.complex.proofs.Boundary.{valid-is-lawful}
-use Rattle.table.proofs.Records.{live-true}
 use Rattle.rows.specs.Rows.{rows}
 use Rattle.checker.specs.declared.Checked.{Checked}
 use Rattle.checker.specs.Check.{checkVerdict, perDimension, Checks}
 use Rattle.checker.proofs.Accepting.{accepted-meets, accepted-decide}
 
-pub checked-holes-are-hole-numbers : (t ev : List ℕ) → Valid t → checkVerdict t ev ≡ Accepted → (p : ℕ) → IsHoleNumber (cells t) p (holesIn (cells t) (rows t ev) p)
-checked-holes-are-hole-numbers t ev v e = holes-are-hole-numbers (cells t) (valid-is-lawful t v) (rows t ev) (accepted-meets t ev e)
+pub checked-holes-are-hole-numbers : (t ev : List ℕ) → Valid t → checkVerdict t ev ≡ Accepted → (p : ℕ) → IsHoleNumber (cells t) p (holesIn (cells t) (rows (cells t) ev) p)
+checked-holes-are-hole-numbers t ev v e = holes-are-hole-numbers (cells t) (valid-is-lawful t v) (rows (cells t) ev) (accepted-meets t ev e)
 
--- r_7 = 0: no cell has a dimension above 6
-pub no-bounding-past-top : (t ev : List ℕ) → Valid t → boundingIn (cells t) (rows t ev) (suc top) ≡ 0
-no-bounding-past-top t ev v = no-bounding-above (cells t) (valid-is-lawful t v) (rows t ev) (suc top)
-    (λ c l on e. omega (arith, live-true t c on .low))
-
--- nothing is lost in n_p − r_p − r_(p+1)
-pub bounding-fits : (t ev : List ℕ) → Valid t → Meets (cells t) (rows t ev) → (p : ℕ) → boundingIn (cells t) (rows t ev) p + boundingIn (cells t) (rows t ev) (suc p) ≤ cellsIn (cells t) p
-bounding-fits t ev v m p = bounding-cells-fit (cells t) (valid-is-lawful t v) (rows t ev) m p
+pub accepted-holes-are-hole-numbers : (t ev : List ℕ) → checkVerdict t ev ≡ Accepted → (p : ℕ) → IsHoleNumber (cells t) p (holesIn (cells t) (rows (cells t) ev) p)
+accepted-holes-are-hole-numbers t ev e = checked-holes-are-hole-numbers t ev (accepted-decide t ev e .valid) e
 
 -- what a call answers that accepts
 module _ (t ev : List ℕ) (r : Checked) (h : Checks t ev r) (e : r .verdict ≡ Accepted) where
@@ -47,5 +41,5 @@ module _ (t ev : List ℕ) (r : Checked) (h : Checks t ev r) (e : r .verdict ≡
 
   pub answered-holes-are-hole-numbers : (p : ℕ) → p ≤ top → IsHoleNumber (cells t) p (getD (r .holes) p 0)
   answered-holes-are-hole-numbers p l =
-      subst (IsHoleNumber (cells t) p) (sym (answered-at (holesIn (cells t) (rows t ev)) (r .holes) p (h .holes-are) l))
-      (checked-holes-are-hole-numbers t ev (accepted-decide t ev accepts .valid) accepts p)
+      subst (IsHoleNumber (cells t) p) (sym (answered-at (holesIn (cells t) (rows (cells t) ev)) (r .holes) p (h .holes-are) l))
+      (accepted-holes-are-hole-numbers t ev accepts p)

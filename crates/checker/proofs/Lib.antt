@@ -1,7 +1,10 @@
 pub mod Tops
+pub mod Dimensions
 pub mod RowTests
+pub mod LiveSets
 pub mod Rules
 pub mod Faults
+pub mod Meeting
 pub mod Accepting
 pub mod HoleNumbers
 pub mod Tallies

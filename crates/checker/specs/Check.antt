@@ -2,72 +2,79 @@
 -- The tests here are computed; that they are rules A and B as printed (`homology`) is proved in proofs/, and so is the meaning of the
 -- numbers. A reader must believe these definitions; nothing here is proved.
 use mathlib.Core.Path.{_≡_}
-use mathlib.Core.Bool.{Bool, true, false, _&&_, _||_, not}
+use mathlib.Core.Bool.{Bool, _&&_, _||_, not}
 use mathlib.Core.List.{List, [], _∷_}
 use Prim.Native.Nat.{ℕ, zero, suc, _+_, _*_}
 use lib.ListN.{length, replicate}
 use lib.Dec.{eqb, leb}
+use Rattle.homology.specs.Cells.{Cells}
 use Rattle.homology.specs.Holes.{Chain, boundary}
 use Rattle.homology.specs.Evidence.{cellsIn, holesIn}
 use Rattle.bitset.specs.Bits.{bits}
-use Rattle.counting.specs.Counting.{someHas, pick}
-use Rattle.table.specs.Kind.{top}
-use Rattle.table.specs.Table.{cellsOf, dim, live}
-use Rattle.table.specs.Words.{listed}
-use Rattle.table.specs.Audit.{all, sized, onValidity}
-use Rattle.table.specs.Calls.{Ground, verdict, onVerdict}
-use Rattle.table.specs.declared.Refusal.{Refusal}
-use Rattle.table.specs.declared.Refusal.the-variants.{Length, RuleA, RuleB}
-use Rattle.table.specs.declared.Verdict.{Verdict}
+use Rattle.counting.specs.Counting.{someHas, pick, listed, all}
+use Rattle.table.specs.Kind.{dimensions}
+use Rattle.audit.specs.Audit.{groundsWith}
+use Rattle.calls.specs.Calls.{Ground, verdict, onVerdict}
+use Rattle.calls.specs.declared.Refusal.the-variants.{RuleA, RuleB}
+use Rattle.calls.specs.declared.Verdict.{Verdict}
 use Rattle.complex.specs.Cells.{cells}
 use Rattle.rows.specs.Rows.{rowWidth, evidenceWords, rows}
 use Rattle.checker.specs.declared.Checked.{Checked}
 
 -- rule A at number c: a member is at most c, live and of c's dimension, and c is live; a live cell is in its own row
-unfoldable pub keepsA : List ℕ → List ℕ → ℕ → Bool
-keepsA t ev c =
-    all (bits * rowWidth t)
-    (λ s. not (rows t ev c s) || (live t c && (leb s c && (live t s && eqb (dim t s) (dim t c)))))
-    && (not (live t c) || rows t ev c c)
+unfoldable pub keepsA : Cells → List ℕ → ℕ → Bool
+keepsA K ev c =
+    all (bits * rowWidth K)
+    (λ s. not (rows K ev c s) || (K .live c && (leb s c && (K .live s && eqb (K .dim s) (K .dim c)))))
+    && (not (K .live c) || rows K ev c c)
 
 -- the boundary of row c
-abbrev pub rowBoundary : List ℕ → List ℕ → ℕ → Chain
-rowBoundary t ev c = boundary (cells t) (rows t ev c)
+abbrev pub rowBoundary : Cells → List ℕ → ℕ → Chain
+rowBoundary K ev c = boundary K (rows K ev c)
 
 -- one more than the largest number below n in x, and 0 where there is none
 unfoldable pub topBelow : Chain → ℕ → ℕ
 topBelow x zero = 0
 topBelow x (suc n) = pick (x n) (suc n) (topBelow x n)
 
-abbrev pub rowTop : List ℕ → List ℕ → ℕ → ℕ
-rowTop t ev c = topBelow (rowBoundary t ev c) (cellsOf t)
+abbrev pub rowTop : Cells → List ℕ → ℕ → ℕ
+rowTop K ev c = topBelow (rowBoundary K ev c) (K .size)
 
 -- rule B at number c: its boundary is empty, or no lower row's boundary has the same largest cell
-unfoldable pub keepsB : List ℕ → List ℕ → ℕ → Bool
-keepsB t ev c = eqb (rowTop t ev c) 0 || not (someHas (λ b. eqb (rowTop t ev b) (rowTop t ev c)) c)
+unfoldable pub keepsB : Cells → List ℕ → ℕ → Bool
+keepsB K ev c = eqb (rowTop K ev c) 0 || not (someHas (λ b. eqb (rowTop K ev b) (rowTop K ev c)) c)
 
 -- the two grounds of each row, for k rows from number c on
-unfoldable pub rowGrounds : List ℕ → List ℕ → ℕ → ℕ → List Ground
-rowGrounds t ev c zero = []
-rowGrounds t ev c (suc k) =
-    record { refusal = RuleA c; applies = not (keepsA t ev c) }
-    ∷ record { refusal = RuleB c; applies = not (keepsB t ev c) }
-    ∷ rowGrounds t ev (suc c) k
+unfoldable pub rowGrounds : Cells → List ℕ → ℕ → ℕ → List Ground
+rowGrounds K ev c zero = []
+rowGrounds K ev c (suc k) =
+    record { refusal = RuleA c; applies = not (keepsA K ev c) }
+    ∷ record { refusal = RuleB c; applies = not (keepsB K ev c) }
+    ∷ rowGrounds K ev (suc c) k
+
+-- the grounds of all rows
+abbrev pub allRows : Cells → List ℕ → List Ground
+allRows K ev = rowGrounds K ev 0 (K .size)
+
+-- evidence of the length for the table
+abbrev pub evidenceFits : List ℕ → List ℕ → Bool
+evidenceFits t ev = eqb (length ev) (evidenceWords (cells t))
 
 abbrev pub checkGrounds : List ℕ → List ℕ → List Ground
-checkGrounds t ev =
-    record { refusal = Length; applies = not (sized t && eqb (length ev) (evidenceWords t)) }
-    ∷ onValidity t
-    ∷ rowGrounds t ev 0 (cellsOf t)
+checkGrounds t ev = groundsWith t (evidenceFits t ev) (allRows (cells t) ev)
 
 unfoldable pub checkVerdict : List ℕ → List ℕ → Verdict
 checkVerdict t ev = verdict (checkGrounds t ev)
 
 -- seven numbers, one for each dimension, all 0 on a refusal
 abbrev pub perDimension : Verdict → (ℕ → ℕ) → List ℕ
-perDimension v f = onVerdict v (listed (top + 1) f) (λ r. replicate (top + 1) 0)
+perDimension v f = onVerdict v (listed dimensions f) (λ r. replicate dimensions 0)
 
-pub record Checks (t ev : List ℕ) (r : Checked) : Type 0 where
-  pub verdict-is : r .verdict ≡ checkVerdict t ev
-  pub cells-are : r .cells ≡ perDimension (checkVerdict t ev) (cellsIn (cells t))
-  pub holes-are : r .holes ≡ perDimension (checkVerdict t ev) (holesIn (cells t) (rows t ev))
+-- the answer with verdict v: the cells and the hole numbers beside it
+pub record Answered (K : Cells) (ev : List ℕ) (v : Verdict) (r : Checked) : Type 0 where
+  pub verdict-is : r .verdict ≡ v
+  pub cells-are : r .cells ≡ perDimension v (cellsIn K)
+  pub holes-are : r .holes ≡ perDimension v (holesIn K (rows K ev))
+
+abbrev pub Checks : List ℕ → List ℕ → Checked → Type 0
+Checks t ev r = Answered (cells t) ev (checkVerdict t ev) r

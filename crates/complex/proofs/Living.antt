@@ -1,16 +1,13 @@
 -- A live cell's dimension and its face places, as the theorems of this crate read them from a table.
 -- What carries them: the cases of the tests. Assumes nothing.
 use mathlib.Core.Path.{_≡_, sym, _∙_}
-use mathlib.Core.Bool.{true}
 use mathlib.Core.List.{List}
 use Prim.Native.Nat.{ℕ, suc, _≤_, _<_}
 use native.Mathlib.Nat.{suc-inj}
 use native.Mathlib.Omega.{arith}
-use borrow.Author.Tests.{ne-eqb, le-leb, lt-ltb, leb-true, ltb-true}
-use lib.Dec.{leb, ltb}
-use Rattle.counting.proofs.Cases.{and-both, and-left, and-right}
+use borrow.Author.Tests.{ne-eqb, le-leb}
 use Rattle.table.specs.Kind.{top, used}
-use Rattle.table.specs.Table.{Live, Valid, cellsOf, dim, face, live}
+use Rattle.table.specs.Table.{Live, Valid, dim, face, live}
 
 -- a dimension from 1 to the top has one place more than its number
 pub places : (p : ℕ) → suc p ≤ top → used (suc p) ≡ suc (suc p)

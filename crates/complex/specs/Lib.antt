@@ -1,2 +1,3 @@
 pub mod SemiSimplicial
+pub mod View
 pub mod Cells

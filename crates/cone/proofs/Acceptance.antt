@@ -13,16 +13,16 @@ use lib.Dec.{eqb}
 use Rattle.bitset.specs.Bits.{bits, wordsFor, mark, member}
 use Rattle.bitset.proofs.Marks.{mark-past}
 use Rattle.table.specs.Kind.{top, used}
-use Rattle.table.specs.Table.{cellsOf, dim, face, Live, live, Valid}
-use Rattle.table.specs.Audit.{sized, sound}
-use Rattle.table.specs.declared.Verdict.the-variants.{Accepted}
+use Rattle.table.specs.Table.{cellsOf, dim, face, Live, live, Valid, sized}
+use Rattle.audit.specs.Audit.{sound}
+use Rattle.calls.specs.declared.Verdict.the-variants.{Accepted}
 use Rattle.table.proofs.Records.{live-says, live-true}
 use Rattle.audit.proofs.Valid.{sound-is-valid, valid-is-sound, valid-is-sized}
 use Rattle.counting.specs.Counting.{howMany, someHas}
 use Rattle.cone.specs.Cone.{free, newCells, markedNotLive, notClosed, topMarked, noRoom, coneGrounds, coneVerdict}
 use Rattle.counting.proofs.Cases.{below-or-not, and-both, and-left, and-right}
 use Rattle.counting.proofs.Counting.{someHas-each, someHas-none}
-use Rattle.audit.proofs.Grounds.{accepted-none-applies, none-applies-accepted}
+use Rattle.calls.proofs.Grounds.{accepted-none-applies, none-applies-accepted}
 
 -- The table is valid, the marks have its length, every marked number is a live cell, every face of a marked cell is marked, no
 -- marked cell has the top dimension, and there are free numbers for the apex and the cones.
@@ -53,7 +53,7 @@ member-inside ws c e =
     (below-or-not c (bits * length ws))
 
 module _ (t marks : List ℕ) where
-  live-marks : markedNotLive t marks ≡ false → (c : ℕ) → member marks c ≡ true → Live t c
+  pub live-marks : markedNotLive t marks ≡ false → (c : ℕ) → member marks c ≡ true → Live t c
   unfolding markedNotLive
   live-marks e c m =
       live-true t c
@@ -125,7 +125,7 @@ module _ (t marks : List ℕ) where
         room = room-left (k .1 .1 .1 .1 .1 .0);
       }
 
-  pub accepts-cone : Accepts t marks → coneVerdict t marks ≡ Accepted
+  accepts-cone : Accepts t marks → coneVerdict t marks ≡ Accepted
   unfolding coneVerdict
   accepts-cone a =
       none-applies-accepted (coneGrounds t marks) (
@@ -135,6 +135,3 @@ module _ (t marks : List ℕ) where
           (marks-live (a .marked-live), (marks-closed (a .closed), (marks-low (a .below-top), (left-room (a .room), tt)))),
         ),
       )
-
-  pub cone-accepts-iff : (coneVerdict t marks ≡ Accepted) ↔ Accepts t marks
-  cone-accepts-iff = (cone-accepted, accepts-cone)

@@ -13,14 +13,13 @@ use lib.Dec.{ltb, eqb}
 use Rattle.bitset.specs.Bits.{member}
 use Rattle.table.specs.Kind.{faces, width, freeMark}
 use Rattle.table.specs.Table.{cellsOf, dim, face, live}
-use Rattle.table.specs.Words.{tableOf}
-use Rattle.table.specs.Stores.{Stored}
+use Rattle.table.specs.Records.{Record, recordAt, tableOf, Alike, Stored}
 use Rattle.counting.proofs.Cases.{below-or-not}
-use Rattle.table.proofs.Words.{length-tableOf, dim-tableOf, face-tableOf, table-by-records}
-use Rattle.table.proofs.Stores.{stored-table}
+use Rattle.table.proofs.Words.{length-tableOf, record-tableOf, table-by-records}
+use Rattle.table.proofs.Stores.{alike-back, stored-table}
 use Rattle.counting.specs.Counting.{howMany, pick}
 use Rattle.counting.proofs.Counting.{howMany-yes-more, same-rank}
-use Rattle.cone.specs.Cone.{free, apexOf, coneOf, baseOf, newCells, coneFace, given, coned}
+use Rattle.cone.specs.Cone.{free, apexOf, coneOf, baseOf, newCells, given, pointRecord, coneRecord, coned}
 use Rattle.cone.proofs.Acceptance.{Accepts}
 use Rattle.cone.proofs.GivenNumbers.{live-not-free, apex-is-free, apex-rank, apex-given, cone-is-free, cone-rank, apex-below-cone, base-of-cone}
 use Rattle.cone.proofs.Sides.{between}
@@ -30,37 +29,31 @@ module _ (t marks : List ℕ) where
   rank c = howMany (free t) c
 
   -- new at the numbers that have g, old elsewhere
-  abbrev newDim : (ℕ → Bool) → ℕ → ℕ
-  newDim g c = pick (g c) (pick (eqb c (apexOf t)) 0 (suc (dim t (baseOf t marks c)))) (dim t c)
-
-  abbrev newFace : (ℕ → Bool) → ℕ → ℕ → ℕ
-  newFace g c j = pick (g c) (pick (eqb c (apexOf t)) freeMark (coneFace t marks (baseOf t marks c) j)) (face t c j)
+  abbrev newRecord : (ℕ → Bool) → ℕ → Record
+  newRecord g c = pick (g c) (pick (eqb c (apexOf t)) pointRecord (coneRecord t marks (baseOf t marks c))) (recordAt t c)
 
   abbrev pub partly : (ℕ → Bool) → List ℕ
-  partly g = tableOf (cellsOf t) (newDim g) (newFace g)
+  partly g = tableOf (cellsOf t) (newRecord g)
 
   module _ (g : ℕ → Bool) where
     -- an old record is read as it was
-    pub old-dim : (c : ℕ) → c < cellsOf t → g c ≡ false → dim (partly g) c ≡ dim t c
-    old-dim c h e = dim-tableOf (cellsOf t) (newDim g) (newFace g) c h ∙ rw e
-
-    pub old-face : (c j : ℕ) → c < cellsOf t → j < faces → g c ≡ false → face (partly g) c j ≡ face t c j
-    old-face c j h k e = face-tableOf (cellsOf t) (newDim g) (newFace g) c j h k ∙ rw e
+    pub old-record : (c : ℕ) → c < cellsOf t → g c ≡ false → Alike (recordAt (partly g) c) (recordAt t c)
+    old-record c h e =
+        let r = record-tableOf (cellsOf t) (newRecord g) c h in
+        record { same-dim = r .same-dim ∙ rw e; same-face = λ j k. r .same-face j k ∙ rw e }
 
     -- nothing new yet
     pub partly-none : length t ≡ cellsOf t * width → ((c : ℕ) → g c ≡ false) → t ≡ partly g
     partly-none e none-new =
-        table-by-records t (partly g) (cellsOf t) e (length-tableOf (cellsOf t) (newDim g) (newFace g))
-        (λ c h. sym (old-dim c h (none-new c)))
-        (λ c j h k. sym (old-face c j h k (none-new c)))
+        table-by-records t (partly g) (cellsOf t) e (length-tableOf (cellsOf t) (newRecord g))
+        (λ c h. alike-back (old-record c h (none-new c)))
 
     -- one number more
     module _ (g′ : ℕ → Bool) (c : ℕ) (is-new : g′ c ≡ true) (others : (s : ℕ) → (s ≡ c → ⊥) → g s ≡ g′ s) where
-      partly-more : (u u′ : List ℕ) (p : ℕ) (f : ℕ → ℕ) → u ≡ partly g → Stored c p f u u′ → p ≡ newDim g′ c → ((j : ℕ) → j < faces → f j ≡ newFace g′ c j) → u′ ≡ partly g′
-      partly-more u u′ p f was store dims sides =
-          stored-table (cellsOf t) (newDim g) (newDim g′) (newFace g) (newFace g′) u u′ c p f was store dims sides
-          (λ s h ne. rw (others s ne))
-          (λ s j h k ne. rw (others s ne))
+      partly-more : (u u′ : List ℕ) (r : Record) → u ≡ partly g → Stored c r u u′ → Alike r (newRecord g′ c) → u′ ≡ partly g′
+      partly-more u u′ r was store new =
+          stored-table (cellsOf t) (newRecord g) (newRecord g′) r u u′ c was store new
+          (λ s h ne. record { same-dim = rw (others s ne); same-face = λ j k. rw (others s ne) })
 
   -- the cones of rank below k
   abbrev pub conesTo : ℕ → ℕ → Bool
@@ -106,14 +99,16 @@ module _ (t marks : List ℕ) where
               ap (λ (b : Bool). ltb 0 (rank c) && b)
               (between (rank c) k (λ q. ne (same-rank (free t) c cone e (cone-is-free t marks a s marked) (q ∙ sym (cone-rank t marks a s marked)))))
 
-      pub cone-written : (u u′ : List ℕ) (p : ℕ) (f : ℕ → ℕ) → u ≡ partly (conesTo k) → Stored cone p f u u′ → p ≡ suc (dim t s) → ((j : ℕ) → j < faces → f j ≡ coneFace t marks s j) → u′ ≡ partly (conesTo (1 + howMany (member marks) (s + 1)))
-      cone-written u u′ p f was store d fs =
+      pub cone-written : (u u′ : List ℕ) (r : Record) → u ≡ partly (conesTo k) → Stored cone r u u′ → Alike r (coneRecord t marks s) → u′ ≡ partly (conesTo (1 + howMany (member marks) (s + 1)))
+      cone-written u u′ r was store new =
           let other : eqb cone (apexOf t) ≡ false = ne-eqb cone (apexOf t) (λ e. omega (arith, apex-below-cone t marks a s marked)) in
           let m : 1 + howMany (member marks) (s + 1) ≡ k + 1 = omega (arith, howMany-yes-more (member marks) s marked) in
           rw m
-          (partly-more (conesTo k) (conesTo (k + 1)) cone cone-here cone-else u u′ p f was store
-          (d ∙ sym (rw (cone-here, other, base-of-cone t marks a s marked)))
-          (λ j h. fs j h ∙ sym (rw (cone-here, other, base-of-cone t marks a s marked))))
+          (partly-more (conesTo k) (conesTo (k + 1)) cone cone-here cone-else u u′ r was store
+          (record {
+            same-dim = new .same-dim ∙ sym (rw (cone-here, other, base-of-cone t marks a s marked));
+            same-face = λ j h. new .same-face j h ∙ sym (rw (cone-here, other, base-of-cone t marks a s marked));
+          }))
 
     -- the apex is the last record written
     apex-else : (c : ℕ) → (c ≡ apexOf t → ⊥) → conesTo (1 + howMany (member marks) (cellsOf t)) c ≡ given t marks c
@@ -126,10 +121,12 @@ module _ (t marks : List ℕ) where
             let z : (rank c ≡ 0 → ⊥) = λ q. ne (same-rank (free t) c (apexOf t) e (apex-is-free t marks a) (q ∙ sym (apex-rank t marks a))) in
             rw (lt-ltb 0 (rank c) (omega arith))
 
-    pub apex-written : (u u′ : List ℕ) (f : ℕ → ℕ) → u ≡ partly (conesTo (1 + howMany (member marks) (cellsOf t))) → Stored (apexOf t) 0 f u u′ → ((j : ℕ) → j < faces → f j ≡ freeMark) → u′ ≡ coned t marks
+    pub apex-written : (u u′ : List ℕ) (r : Record) → u ≡ partly (conesTo (1 + howMany (member marks) (cellsOf t))) → Stored (apexOf t) r u u′ → Alike r pointRecord → u′ ≡ coned t marks
     unfolding coned
-    apex-written u u′ f was store fs =
+    apex-written u u′ r was store new =
         let here : eqb (apexOf t) (apexOf t) ≡ true = eq-eqb (apexOf t) (apexOf t) refl in
-        partly-more (conesTo (1 + howMany (member marks) (cellsOf t))) (given t marks) (apexOf t) (apex-given t marks a) apex-else u u′ 0 f was store
-        (sym (rw (apex-given t marks a, here)))
-        (λ j h. fs j h ∙ sym (rw (apex-given t marks a, here)))
+        partly-more (conesTo (1 + howMany (member marks) (cellsOf t))) (given t marks) (apexOf t) (apex-given t marks a) apex-else u u′ r was store
+        (record {
+          same-dim = new .same-dim ∙ sym (rw (apex-given t marks a, here));
+          same-face = λ j h. new .same-face j h ∙ sym (rw (apex-given t marks a, here));
+        })

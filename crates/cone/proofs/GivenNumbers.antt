@@ -124,7 +124,7 @@ module _ (t marks : List ℕ) (a : Accepts t marks) where
     unfolding baseOf
     base-marked = nth-has (member marks) (cellsOf t) (howMany (free t) c - 1) base-exists
 
-    pub base-rank : 1 + howMany (member marks) (baseOf t marks c) ≡ howMany (free t) c
+    base-rank : 1 + howMany (member marks) (baseOf t marks c) ≡ howMany (free t) c
     unfolding baseOf
     base-rank =
         omega (arith, later-rank, nth-rank (member marks) (cellsOf t) (howMany (free t) c - 1) base-exists)

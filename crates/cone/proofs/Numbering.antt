@@ -1,11 +1,11 @@
 -- The pass that fixes the new numbers: the first free number from one on, and the number that each marked cell is given.
--- What carries it: a free number after the k-th is the one of rank k + 1, and where there is no k-th there is none after it.
--- Assumes nothing.
+-- What carries it: a free number after the k-th is the one of rank k + 1, and where there is no k-th there is none after it; and past
+-- the last mark no more cells are counted. Assumes nothing.
 use mathlib.Core.Path.{_≡_, sym, ap, _∙_}
 use mathlib.Core.Logic.{⊎-elim}
 use mathlib.Core.Bool.{Bool, true, false, not, false≢true}
 use mathlib.Core.List.{List}
-use Prim.Native.Nat.{ℕ, _+_, _≤_, _<_}
+use Prim.Native.Nat.{ℕ, zero, suc, _+_, _-_, _≤_, _<_}
 use native.Mathlib.Omega.{arith}
 use borrow.Author.Tests.{lt-ltb, le-ltb}
 use lib.ListN.{length, getD, set, length-set}
@@ -16,9 +16,9 @@ use Rattle.table.specs.Kind.{capacity}
 use Rattle.table.specs.Table.{cellsOf, live}
 use Rattle.counting.proofs.Cases.{below-or-not, same-or-other}
 use Rattle.counting.specs.Counting.{howMany, nth}
-use Rattle.counting.proofs.Counting.{howMany-zero, howMany-mono, howMany-yes-more, howMany-no-more, nth-none, nth-below, nth-has, nth-rank, rank-nth}
+use Rattle.counting.proofs.Counting.{howMany-zero, howMany-no, howMany-mono, howMany-yes-more, howMany-no-more, nth-none, nth-below, nth-has, nth-rank, rank-nth}
 use Rattle.cone.specs.Cone.{free, apexOf, coneOf, newCells, noRoom}
-use Rattle.cone.specs.Parts.{freeFrom, Given}
+use Rattle.cone.specs.Parts.{MarksEnd, freeFrom, Given}
 use Rattle.cone.proofs.GivenNumbers.{not-live-free, live-not-free}
 
 -- ---- the search for a free number
@@ -63,7 +63,6 @@ next-nth f n k =
 
 -- the marked cells below s have their numbers, and `last` was given last
 pub record Giving (t marks ns : List ℕ) (n last s : ℕ) : Type 0 where
-  pub passed : s ≤ n
   pub cells : n ≡ cellsOf t
   pub few : n ≤ capacity
   pub size : length ns ≡ capacity
@@ -75,7 +74,6 @@ pub giving-starts : (t marks ns : List ℕ) (n apex : ℕ) → n ≡ cellsOf t �
 unfolding apexOf
 giving-starts t marks ns n apex cells few is-apex size =
     record {
-      passed = omega arith;
       cells = cells;
       few = omega arith;
       size = size;
@@ -98,7 +96,6 @@ module _ (t marks ns : List ℕ) (n last s : ℕ) (so-far : Giving t marks ns n 
   unfolding coneOf
   giving-gives r marked next =
       record {
-        passed = omega arith;
         cells = so-far .cells;
         few = so-far .few;
         size = length-set ns s r ∙ so-far .size;
@@ -116,7 +113,6 @@ module _ (t marks ns : List ℕ) (n last s : ℕ) (so-far : Giving t marks ns n 
   pub giving-passes : member marks s ≡ false → Giving t marks ns n last (s + 1)
   giving-passes unmarked =
       record {
-        passed = omega arith;
         cells = so-far .cells;
         few = so-far .few;
         size = so-far .size;
@@ -127,12 +123,23 @@ module _ (t marks ns : List ℕ) (n last s : ℕ) (so-far : Giving t marks ns n 
             (λ m. absurd (false≢true (sym unmarked ∙ m)));
       }
 
-pub giving-ends : (t marks ns : List ℕ) (n last s : ℕ) → Giving t marks ns n last s → n ≤ s → Given t marks (ltb last n) ns
+-- where the marks have ended, as many cells are marked as in all
+unmarked : (f : ℕ → Bool) (e k : ℕ) → ((s : ℕ) → e ≤ s → f s ≡ false) → howMany f (k + e) ≡ howMany f e
+unmarked f e zero none = ap (howMany f) (omega arith)
+unmarked f e (suc k) none =
+    ap (howMany f) (omega arith) ∙ howMany-no f (k + e) (none (k + e) (omega arith)) ∙ unmarked f e k none
+
+pub marks-counted : (t marks : List ℕ) (s e : ℕ) → s ≡ e → MarksEnd t marks e → howMany (member marks) s ≡ howMany (member marks) (cellsOf t)
+marks-counted t marks s e i m =
+    ap (howMany (member marks)) i
+    ∙ sym (unmarked (member marks) e (cellsOf t - e) (m .none))
+    ∙ ap (howMany (member marks)) (omega (arith, m .inside))
+
+pub giving-ends : (t marks ns : List ℕ) (n last s e : ℕ) → Giving t marks ns n last s → s ≡ e → MarksEnd t marks e → Given t marks (ltb last n) ns
 unfolding noRoom newCells
-giving-ends t marks ns n last s g h =
-    let e : s ≡ cellsOf t = omega (arith, g .passed, g .cells) in
+giving-ends t marks ns n last s e g i m =
     let k : ℕ = howMany (member marks) (cellsOf t) in
-    let l : last ≡ nth (free t) (cellsOf t) k = g .is-last ∙ ap (λ (x : ℕ). nth (free t) (cellsOf t) (howMany (member marks) x)) e in
+    let l : last ≡ nth (free t) (cellsOf t) k = g .is-last ∙ ap (nth (free t) (cellsOf t)) (marks-counted t marks s e i m) in
     record {
       room =
           ⊎-elim
@@ -144,5 +151,9 @@ giving-ends t marks ns n last s g h =
           ∙ sym (ap not (lt-ltb (howMany (free t) (cellsOf t)) (1 + k) (omega arith))))
           (below-or-not k (howMany (free t) (cellsOf t)));
       size = g .size;
-      at = λ c b. g .given c (omega (arith, g .cells));
+      at = λ c b marked.
+          ⊎-elim
+          (λ h. g .given c h marked)
+          (λ h. absurd (false≢true (sym (m .none c (omega arith)) ∙ marked)))
+          (below-or-not c s);
     }

@@ -4,29 +4,30 @@
 use mathlib.Core.Path.{_≡_, refl, sym, ap, _∙_}
 use mathlib.Core.Bool.{Bool, true, false, _&&_, and-true, and-false}
 use mathlib.Core.List.{List, [], _∷_, _++_}
-use Prim.Native.Nat.{ℕ, _≤_}
+use mathlib.Core.Logic.{⊎-elim}
+use Prim.Native.Nat.{ℕ, _-_, _≤_}
 use native.Mathlib.Omega.{arith}
-use borrow.Author.Tests.{eq-eqb, ne-eqb, not-true, not-false}
+use borrow.Author.Tests.{eq-eqb, ne-eqb, eqb-true, not-true, not-false}
 use lib.ListN.{length}
 use lib.Dec.{eqb}
-use Rattle.counting.proofs.Cases.{and-left}
+use Rattle.counting.proofs.Cases.{and-left, and-right, below-or-not}
 use Rattle.bitset.specs.Bits.{wordsFor}
 use Rattle.counting.specs.Counting.{pick}
 use Rattle.table.specs.Kind.{capacity}
-use Rattle.table.specs.Table.{cellsOf}
-use Rattle.table.specs.Audit.{sized, auditGrounds}
-use Rattle.table.specs.Calls.{Ground, verdict, named, leaves, Ends}
-use Rattle.table.specs.declared.Refusal.{Refusal}
-use Rattle.table.specs.declared.Refusal.the-variants.{Length, NoRoom}
-use Rattle.table.specs.declared.Verdict.{Verdict}
-use Rattle.table.specs.declared.Verdict.the-variants.{Accepted, Refused}
-use Rattle.table.specs.declared.Named.the-variants.{Cell, NoCell}
-use Rattle.audit.proofs.Sizes.{sized-is-sized}
+use Rattle.table.specs.Table.{cellsOf, sized}
+use Rattle.audit.specs.Audit.{auditGrounds}
+use Rattle.calls.specs.Calls.{Ground, verdict, named, leaves, Ends}
+use Rattle.calls.specs.declared.Refusal.{Refusal}
+use Rattle.calls.specs.declared.Refusal.the-variants.{Length, NoRoom}
+use Rattle.calls.specs.declared.Verdict.{Verdict}
+use Rattle.calls.specs.declared.Verdict.the-variants.{Accepted, Refused}
+use Rattle.calls.specs.declared.Named.the-variants.{Cell, NoCell}
+use Rattle.table.proofs.Sizes.{sized-is-sized}
 use Rattle.audit.proofs.Valid.{audit-accepts-iff-valid}
-use Rattle.cone.specs.Cone.{apexOf, coned, noRoom, coneVerdict, coneAnswer, coneLeaves}
-use Rattle.cone.specs.Parts.{Given, Ready, markGrounds, earlyGrounds}
-use Rattle.audit.proofs.Grounds.{accepted-none-applies, refused-first, accepted-first}
-use Rattle.cone.proofs.Acceptance.{cone-accepted}
+use Rattle.cone.specs.Cone.{apexOf, coned, noRoom, coneVerdict, coneAnswer, coneLeaves, markGrounds}
+use Rattle.cone.specs.Parts.{MarkedBelow, MarksEnd, Given, Ready, earlyGrounds}
+use Rattle.calls.proofs.Grounds.{accepted-none-applies, refused-first, accepted-first}
+use Rattle.cone.proofs.Acceptance.{cone-accepted, live-marks}
 
 module _ (t marks : List ℕ) where
   -- the lengths and the audit
@@ -65,12 +66,30 @@ module _ (t marks : List ℕ) where
     only-room : coneVerdict t marks ≡ pick (noRoom t marks) (Refused NoRoom) Accepted
     only-room = all-grounds ∙ accepted-first (earlyGrounds t marks) (roomGround ∷ []) early
 
+    -- the lengths are right, so there are few cells and few words
+    lengths : (sized t && eqb (length marks) (wordsFor (cellsOf t))) ≡ true
+    lengths =
+        not-false (sized t && eqb (length marks) (wordsFor (cellsOf t))) (accepted-none-applies (earlyGrounds t marks) early .0)
+
     pub few-cells : cellsOf t ≤ capacity
-    few-cells =
-        sized-is-sized t
-        (and-left (sized t) (eqb (length marks) (wordsFor (cellsOf t)))
-        (not-false (sized t && eqb (length marks) (wordsFor (cellsOf t))) (accepted-none-applies (earlyGrounds t marks) early .0)))
-        .room
+    few-cells = sized-is-sized t (and-left (sized t) (eqb (length marks) (wordsFor (cellsOf t))) lengths) .room
+
+    pub words-fit : length marks ≤ capacity
+    words-fit =
+        let right : length marks ≡ wordsFor (cellsOf t) = eqb-true (length marks) (wordsFor (cellsOf t)) (and-right (sized t) _ lengths) in
+        omega (arith, few-cells)
+
+    -- the last mark is on a live cell, so the marks end in the table
+    pub ends-inside : (e : ℕ) → MarkedBelow marks e → MarksEnd t marks e
+    ends-inside e b =
+        record {
+          inside =
+              ⊎-elim
+              (λ l. omega (arith, live-marks t marks (accepted-none-applies (earlyGrounds t marks) early .1 .1 .0) (e - 1) (b .last l) .inside))
+              (λ l. omega arith)
+              (below-or-not 0 e);
+          none = b .none;
+        }
 
     module _ (apex : ℕ) (enough : Bool) (ns : List ℕ) (is-apex : apex ≡ apexOf t) (given : Given t marks enough ns) where
       pub room-lacks : enough ≡ false → Ends (coneAnswer t marks) (coneLeaves t marks) (NoCell NoRoom) t

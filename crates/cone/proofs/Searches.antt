@@ -15,15 +15,15 @@ use Rattle.bitset.specs.declared.Top.the-variants.{Nothing}
 use Rattle.bitset.proofs.Marks.{true-member, false-member}
 use Rattle.table.specs.Kind.{top, used}
 use Rattle.table.specs.Table.{cellsOf, dim, live}
-use Rattle.table.specs.Calls.{verdict}
-use Rattle.table.specs.declared.Refusal.the-variants.{NotLive, NotClosed, TopMarked}
-use Rattle.table.specs.declared.Verdict.the-variants.{Accepted, Refused}
+use Rattle.calls.specs.Calls.{verdict}
+use Rattle.calls.specs.declared.Refusal.the-variants.{NotLive, NotClosed, TopMarked}
+use Rattle.calls.specs.declared.Verdict.the-variants.{Accepted, Refused}
 use Rattle.counting.proofs.Cases.{below-or-not}
 use Rattle.table.proofs.Records.{outside-dead}
 use Rattle.counting.specs.Counting.{someHas, pick}
 use Rattle.counting.proofs.Counting.{someHas-each, someHas-none, someHas-at, someHas-one}
-use Rattle.cone.specs.Cone.{markedNotLive, notClosed, topMarked}
-use Rattle.cone.specs.Parts.{MarkedBelow, openFace, markGrounds}
+use Rattle.cone.specs.Cone.{markedNotLive, notClosed, topMarked, markGrounds}
+use Rattle.cone.specs.Parts.{MarkedBelow, openFace}
 use Rattle.cone.proofs.Acceptance.{member-inside}
 
 -- A flag b that says whether a number below n has f: at the start, with the test r of n added, and where no number from n on has f.

@@ -33,11 +33,15 @@ pub used-most : (p : ℕ) → p < top → used p ≤ p + 1
 used-most zero low = omega arith
 used-most (suc p) low = omega (arith, used-suc p low)
 
--- the faces of a cell that was read are entries
-pub side-entry : (t ns f : List ℕ) (s p u j : ℕ) → Coneable t ns s → p ≡ dim t s → u ≡ used p → f ≡ facesOf t s → u ≤ faces → j < u → getD f j 0 < capacity
-side-entry t ns f s p u j ok d i e few h =
-    let k : j < used (dim t s) = rw (i, d) at h in
-    omega (arith, faces-at t s f e j (omega arith), ok .sides j k)
+-- a cell that has room for a cone has few faces, and those that were read are entries
+module _ (t ns : List ℕ) (s u : ℕ) (ok : Coneable t ns s) (is : u ≡ used (dim t s)) where
+  pub few-sides : u ≤ faces
+  few-sides = omega (arith, used-most (dim t s) (ok .low), ok .low)
+
+  pub side-entry : (f : List ℕ) (j : ℕ) → f ≡ facesOf t s → j < u → getD f j 0 < capacity
+  side-entry f j e h =
+      let place : j < used (dim t s) = omega arith in
+      omega (arith, faces-at t s f e j (omega (arith, few-sides)), ok .sides j place)
 
 -- a side matters at a used place alone
 pub used-side : (p s apex : ℕ) (side side′ : ℕ → ℕ) (j : ℕ) → p < top → (j < used p → side j ≡ side′ j) → overFace p s apex side j ≡ overFace p s apex side′ j

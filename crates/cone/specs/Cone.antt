@@ -1,21 +1,20 @@
 -- The cone over a closed set of marked cells: what the call answers and leaves. That this is the published rule, which names no
 -- numbers but the lowest free ones, is stated and proved in `building`.
 -- A reader must believe these definitions; nothing here is proved.
-use mathlib.Core.Path.{_≡_}
-use mathlib.Core.Bool.{Bool, true, false, _&&_, _||_, not}
-use mathlib.Core.List.{List, [], _∷_}
-use Prim.Native.Nat.{ℕ, suc, _+_, _*_, _-_, _≤_, _<_}
+use mathlib.Core.Bool.{Bool, _&&_, not}
+use mathlib.Core.List.{List, [], _∷_, _++_}
+use Prim.Native.Nat.{ℕ, suc, _+_, _*_, _-_}
 use lib.ListN.{length}
-use lib.Dec.{eqb, ltb, leb}
+use lib.Dec.{eqb, ltb}
 use Rattle.bitset.specs.Bits.{bits, wordsFor, member}
-use Rattle.table.specs.Kind.{top, faces, freeMark, used}
+use Rattle.table.specs.Kind.{top, freeMark, used}
 use Rattle.table.specs.Table.{cellsOf, dim, face, live}
-use Rattle.table.specs.Words.{tableOf}
-use Rattle.table.specs.Audit.{sized, onValidity}
-use Rattle.table.specs.Calls.{Ground, verdict, named, leaves}
-use Rattle.table.specs.declared.Refusal.the-variants.{Length, NotLive, NotClosed, TopMarked, NoRoom}
-use Rattle.table.specs.declared.Verdict.{Verdict}
-use Rattle.table.specs.declared.Named.{Named}
+use Rattle.table.specs.Records.{Record, recordAt, tableOf}
+use Rattle.audit.specs.Audit.{groundsWith}
+use Rattle.calls.specs.Calls.{Ground, verdict, named, leaves}
+use Rattle.calls.specs.declared.Refusal.the-variants.{NotLive, NotClosed, TopMarked, NoRoom}
+use Rattle.calls.specs.declared.Verdict.{Verdict}
+use Rattle.calls.specs.declared.Named.{Named}
 use Rattle.counting.specs.Counting.{howMany, nth, someHas, pick}
 
 -- a number inside the table whose record is free
@@ -48,11 +47,17 @@ coneFace t marks s j =
 abbrev pub given : List ℕ → List ℕ → ℕ → Bool
 given t marks c = free t c && ltb (howMany (free t) c) (newCells t marks)
 
+-- the record of the apex, a point, and that of the cone over s
+abbrev pub pointRecord : Record
+pointRecord = record { dim = 0; face = λ j. freeMark }
+
+abbrev pub coneRecord : List ℕ → List ℕ → ℕ → Record
+coneRecord t marks s = record { dim = suc (dim t s); face = coneFace t marks s }
+
 unfoldable pub coned : List ℕ → List ℕ → List ℕ
 coned t marks =
     tableOf (cellsOf t)
-    (λ c. pick (given t marks c) (pick (eqb c (apexOf t)) 0 (suc (dim t (baseOf t marks c)))) (dim t c))
-    (λ c j. pick (given t marks c) (pick (eqb c (apexOf t)) freeMark (coneFace t marks (baseOf t marks c) j)) (face t c j))
+    (λ c. pick (given t marks c) (pick (eqb c (apexOf t)) pointRecord (coneRecord t marks (baseOf t marks c))) (recordAt t c))
 
 -- a marked number that is no live cell; numbers from N on are none
 unfoldable pub markedNotLive : List ℕ → List ℕ → Bool
@@ -69,15 +74,21 @@ topMarked t marks = someHas (λ c. member marks c && eqb (dim t c) top) (cellsOf
 unfoldable pub noRoom : List ℕ → List ℕ → Bool
 noRoom t marks = ltb (howMany (free t) (cellsOf t)) (newCells t marks)
 
-abbrev pub coneGrounds : List ℕ → List ℕ → List Ground
-coneGrounds t marks =
-    record { refusal = Length; applies = not (sized t && eqb (length marks) (wordsFor (cellsOf t))) }
-    ∷ onValidity t
-    ∷ record { refusal = NotLive; applies = markedNotLive t marks }
+-- the marks have the length for the table
+abbrev pub marksFit : List ℕ → List ℕ → Bool
+marksFit t marks = eqb (length marks) (wordsFor (cellsOf t))
+
+-- the grounds that only the marks give, in their order, and then the room
+abbrev pub markGrounds : List ℕ → List ℕ → List Ground
+markGrounds t marks =
+    record { refusal = NotLive; applies = markedNotLive t marks }
     ∷ record { refusal = NotClosed; applies = notClosed t marks }
     ∷ record { refusal = TopMarked; applies = topMarked t marks }
-    ∷ record { refusal = NoRoom; applies = noRoom t marks }
     ∷ []
+
+abbrev pub coneGrounds : List ℕ → List ℕ → List Ground
+coneGrounds t marks =
+    groundsWith t (marksFit t marks) (markGrounds t marks ++ (record { refusal = NoRoom; applies = noRoom t marks } ∷ []))
 
 unfoldable pub coneVerdict : List ℕ → List ℕ → Verdict
 coneVerdict t marks = verdict (coneGrounds t marks)

@@ -6,15 +6,16 @@ ghost use lib.ListN.{length};
 ghost use Rattle.table.specs.Kind.{capacity, used};
 ghost use Rattle.table.specs.Table.{cellsOf, dim};
 ghost use Rattle.counting.specs.Counting.{someHas};
-ghost use Rattle.table.specs.Calls.{verdict};
-ghost use Rattle.cone.specs.Parts.{MarkedBelow, openFace, markGrounds};
+ghost use Rattle.calls.specs.Calls.{verdict};
+ghost use Rattle.cone.specs.Cone.{markGrounds};
+ghost use Rattle.cone.specs.Parts.{MarkedBelow, openFace};
 use bitset::Top;
-use table::Refusal;
+use calls::Refusal;
+use calls::Verdict;
 use table::Table;
-use table::Verdict;
 
 // The number after the last mark, 0 where nothing is marked.
-fn marks_end(marks: &[u64]) -> usize
+pub fn marks_end(marks: &[u64]) -> usize
     requires { ⌜ length (now marks) ≤ capacity ⌝ }
     ensures { λ r. ⌜ MarkedBelow (now (marks .entry)) r ⌝ }
 {

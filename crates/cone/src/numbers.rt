@@ -6,7 +6,7 @@ ghost use lib.ListN.{length};
 ghost use Rattle.table.specs.Kind.{capacity};
 ghost use Rattle.table.specs.Table.{cellsOf};
 ghost use Rattle.cone.specs.Cone.{apexOf};
-ghost use Rattle.cone.specs.Parts.{freeFrom, Given};
+ghost use Rattle.cone.specs.Parts.{MarksEnd, freeFrom, Given};
 use table::Table;
 
 // The first free number from `from` on, or N where there is none.
@@ -25,19 +25,21 @@ pub fn next_free(t: &[u16], from: usize) -> usize
 }
 
 // Gives each marked cell the next free number after the last one given, N where there is none, and answers whether there were enough.
+// No cell from `end` on is marked.
 pub fn cone_numbers(
     t: &[u16],
     marks: &[u64],
     apex: usize,
+    end: usize,
     numbers: &mut [u16; Table::CAPACITY],
 ) -> bool
-    requires { ⌜ (cellsOf (now t) ≤ capacity) × (apex ≡ apexOf (now t)) × (length (now numbers) ≡ capacity) ⌝ }
+    requires { ⌜ (cellsOf (now t) ≤ capacity) × (apex ≡ apexOf (now t)) × (length (now numbers) ≡ capacity) × MarksEnd (now t) (now marks) end ⌝ }
     ensures { λ r. ⌜ Given (now (t .entry)) (now (marks .entry)) r (now (numbers .exit)) ⌝ }
 {
     let n = Table::room(t);
     let mut last = apex;
     let mut s = 0;
-    while s < n {
+    while s < end {
         if bitset::has(marks, s) {
             last = next_free(t, last + 1);
             numbers[s] = last as u16;

@@ -6,14 +6,14 @@ use mathlib.Core.List.{List}
 use Prim.Native.Nat.{ℕ, _≤_, _<_}
 use borrow.Author.Tests.{lt-ltb, le-ltb}
 use Rattle.table.specs.Table.{dim, live, Valid}
-use Rattle.table.specs.Audit.{auditGrounds}
-use Rattle.table.specs.Calls.{verdict, named}
-use Rattle.table.specs.declared.Refusal.{Refusal}
-use Rattle.table.specs.declared.Refusal.the-variants.{NotLive, NoSuchPlace}
-use Rattle.table.specs.declared.Verdict.{Verdict}
-use Rattle.table.specs.declared.Verdict.the-variants.{Refused}
-use Rattle.table.specs.declared.Named.the-variants.{Cell, NoCell}
-use Rattle.audit.proofs.Grounds.{refused-first}
+use Rattle.audit.specs.Audit.{auditGrounds}
+use Rattle.calls.specs.Calls.{verdict, named}
+use Rattle.calls.specs.declared.Refusal.{Refusal}
+use Rattle.calls.specs.declared.Refusal.the-variants.{NotLive, NoSuchPlace}
+use Rattle.calls.specs.declared.Verdict.{Verdict}
+use Rattle.calls.specs.declared.Verdict.the-variants.{Refused}
+use Rattle.calls.specs.declared.Named.the-variants.{Cell, NoCell}
+use Rattle.calls.proofs.Grounds.{refused-first}
 use Rattle.audit.proofs.Valid.{valid-is-sized, valid-is-sound}
 use Rattle.corner.specs.Corner.{cornerOf, ownGrounds, cornerAnswer}
 

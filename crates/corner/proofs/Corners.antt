@@ -7,7 +7,7 @@ use native.Mathlib.Omega.{arith}
 use borrow.Author.Tests.{lt-ltb, le-ltb}
 use Rattle.table.specs.Kind.{used}
 use Rattle.table.specs.Table.{dim, face, Live, Valid}
-use Rattle.audit.proofs.Places.{used-is}
+use Rattle.table.proofs.Places.{used-is}
 use Rattle.corner.specs.Corner.{cornerAt, cornerOf}
 
 corner-as : (t : List ℕ) (c k q : ℕ) → dim t c ≡ q → cornerOf t c k ≡ cornerAt t q c k

@@ -64,7 +64,7 @@ module _ (t : List ℕ) (v : Valid t) where
       (λ h.
       ⊎-elim
       (λ g. lower q c l e j (omega arith) k (omega arith) (ih₁ (omega arith) (omega arith)))
-      (λ g. top j k (same k g hk) h)
+      (λ g. last-corner j k (same k g hk) h)
       (below-or-not k (suc q)))
       (λ h. subst (λ (x : ℕ). Vertex t c x k) (is-last j h hj) (at-last-face (suc q) c k l e hk))
       (below-or-not j (suc (suc q)))
@@ -75,9 +75,9 @@ module _ (t : List ℕ) (v : Valid t) where
       same : (m : ℕ) → suc q ≤ m → m ≤ suc q → m ≡ suc q
       same m a b = omega arith
 
-      top : (i m : ℕ) → m ≡ suc q → i < suc (suc q) → Vertex t c i m
-      top zero m z h = subst (λ (x : ℕ). Vertex t c 0 x) (sym z) (at-first-face (suc q) c l e)
-      top (suc i) m z h = subst (λ (x : ℕ). Vertex t c (suc i) x) (sym z) (last q c l e (suc i) (omega arith) i refl (ih₂ i (omega arith)))
+      last-corner : (i m : ℕ) → m ≡ suc q → i < suc (suc q) → Vertex t c i m
+      last-corner zero m z h = subst (λ (x : ℕ). Vertex t c 0 x) (sym z) (at-first-face (suc q) c l e)
+      last-corner (suc i) m z h = subst (λ (x : ℕ). Vertex t c (suc i) x) (sym z) (last q c l e (suc i) (omega arith) i refl (ih₂ i (omega arith)))
 
   vertex : (p c : ℕ) → Live t c → dim t c ≡ suc p → (j k : ℕ) → j ≤ suc p → k ≤ p → Vertex t c j k
   vertex zero c l e zero zero hj hk = at-first-face 0 c l e

@@ -1,12 +1,12 @@
 // Corners: the lookup calls itself on a face, and the cell's dimension falls at each call.
 ghost use mathlib.Core.Path.{_≡_};
-ghost use Prim.Native.Nat.{_≤_, _<_};
+ghost use Prim.Native.Nat.{_≤_};
 ghost use Rattle.table.specs.Table.{dim as dimOf, Valid, Live};
 ghost use Rattle.corner.specs.Corner.{cornerOf, cornerAnswer};
-use table::Named;
-use table::Refusal;
+use calls::Named;
+use calls::Refusal;
+use calls::Verdict;
 use table::Table;
-use table::Verdict;
 
 // Corner k of a live cell of a valid table.
 fn corner_of(t: &[u16], c: u16, k: u16) -> u16
@@ -29,8 +29,8 @@ fn corner_of(t: &[u16], c: u16, k: u16) -> u16
 pub fn corner(t: &[u16], c: u16, k: u16) -> Named
     ensures { λ r. ⌜ r ≡ cornerAnswer (now (t .entry)) c k ⌝ }
 {
-    let valid = audit::audit(t);
-    match valid {
+    let found = audit::audit(t);
+    match found {
         Verdict::Refused(r) => Named::NoCell(r),
         Verdict::Accepted => of_valid(t, c, k),
     }

@@ -184,11 +184,6 @@ module _ (f : ℕ → Bool) where
   someHas-none zero each = refl
   someHas-none (suc n) each = rw (someHas-none n (λ k h. each k (omega arith)), each n (omega arith))
 
-  -- one turn more of a search that found none so far
-  pub someHas-more : (n : ℕ) → someHas f n ≡ false → f n ≡ false → someHas f (n + 1) ≡ false
-  unfolding someHas
-  someHas-more n e h = rw (add-one n, e, h)
-
   -- one has f
   pub someHas-at : (n k : ℕ) → k < n → f k ≡ true → someHas f n ≡ true
   someHas-at n k h e = go (true-or-false (someHas f n))

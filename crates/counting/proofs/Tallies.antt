@@ -6,9 +6,10 @@ use mathlib.Core.List.{List}
 use Prim.Native.Nat.{ℕ, _+_, _≤_, _<_}
 use native.Mathlib.Omega.{arith}
 use lib.ListN.{length, getD, set, replicate, length-replicate, getD-replicate, length-set}
-use lib.Seq.{getD-set-same, getD-set-other}
+use lib.Seq.{ext-getD, getD-set-same, getD-set-other}
 use Rattle.counting.proofs.Cases.{same-or-other}
-use Rattle.counting.specs.Counting.{howMany}
+use Rattle.counting.specs.Counting.{howMany, listed}
+use Rattle.counting.proofs.Listed.{length-listed, getD-listed}
 use Rattle.counting.proofs.Counting.{howMany-zero, howMany-yes-more, howMany-no-more, howMany-most}
 
 -- place p of xs, below m, has how many numbers below c have f p
@@ -47,3 +48,11 @@ module _ {m : ℕ} {f : ℕ → ℕ → Bool} {c : ℕ} {xs : List ℕ} (k : Tal
             ∙ sym (howMany-yes-more (f q) c on))
             (λ ne. getD-set-other xs q p (getD xs q 0 + 1) 0 ne ∙ k .each p h ∙ sym (howMany-no-more (f p) c (off p ne)));
       }
+
+  -- the whole list, where the numbers below c are all
+  pub tally-listed : (n : ℕ) → c ≡ n → xs ≡ listed m (λ p. howMany (f p) n)
+  tally-listed n e =
+      ext-getD 0 xs (listed m (λ p. howMany (f p) n)) (k .long ∙ sym (length-listed m (λ p. howMany (f p) n)))
+      (λ p h.
+      let l : p < m = omega (arith, k .long) in
+      k .each p l ∙ ap (howMany (f p)) e ∙ sym (getD-listed m (λ q. howMany (f q) n) p l))

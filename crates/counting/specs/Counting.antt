@@ -1,6 +1,7 @@
--- Choosing by a test, counting the numbers that have a property, and picking the k-th of them.
+-- Choosing by a test, testing and counting the numbers that have a property, picking the k-th of them, and lists given place by place.
 -- A reader must believe these definitions; nothing here is proved.
 use mathlib.Core.Bool.{Bool, true, false, _&&_, _||_, not}
+use mathlib.Core.List.{List, [], _∷_}
 use Prim.Native.Nat.{ℕ, zero, suc, _+_}
 use lib.Dec.{eqb}
 
@@ -23,3 +24,13 @@ nth f (suc n) k = pick (f n && eqb (howMany f n) k) n (pick (eqb (nth f n k) n) 
 unfoldable pub someHas : (ℕ → Bool) → ℕ → Bool
 someHas f zero = false
 someHas f (suc n) = someHas f n || f n
+
+-- whether all numbers below n have f
+unfoldable pub all : ℕ → (ℕ → Bool) → Bool
+all zero f = true
+all (suc n) f = all n f && f n
+
+-- the list f 0, f 1, .. of n numbers
+unfoldable pub listed : ℕ → (ℕ → ℕ) → List ℕ
+listed zero f = []
+listed (suc n) f = f 0 ∷ listed n (λ k. f (suc k))

@@ -1,2 +1,4 @@
 pub mod Telling
 pub mod Outcomes
+pub mod Meaning
+pub mod Lowest

@@ -1,69 +1,81 @@
--- Two permitted outcomes of a public call are equal: the general law, cited once for each of the twelve calls. The checker's and the
--- reducer's contracts are records of their own; theirs are `one-answer` and `one-reduction`, in their crates. Assumes nothing.
-use mathlib.Core.Path.{_≡_, sym, _∙_}
+-- Two permitted outcomes of an exported call are equal: the answer, and what stands in every buffer and behind every pointer.
+-- What carries it: each is what the contract names; the reducer's rule has one outcome. Assumes nothing.
+use mathlib.Core.Path.{_≡_, refl, sym, ap, _∙_}
 use mathlib.Core.List.{List}
 use Prim.Native.Nat.{ℕ}
+use native.Mathlib.Omega.{arith}
 use lib.IntN.{ℤ}
-use Rattle.table.specs.Audit.{auditGrounds}
-use Rattle.table.specs.Calls.{verdict, Ends}
-use Rattle.table.specs.declared.Verdict.{Verdict}
-use Rattle.table.specs.declared.Named.{Named}
-use Rattle.audit.specs.Empty.{emptyVerdict, emptyLeaves}
-use Rattle.audit.proofs.Outcomes.{one-outcome}
-use Rattle.merge.specs.Merge.{mergeAnswer, mergeLeaves}
-use Rattle.cone.specs.Cone.{coneAnswer, coneLeaves}
-use Rattle.reading.specs.declared.Sum.{Sum}
-use Rattle.reading.specs.Incidence.{incidenceAnswer}
-use Rattle.reading.specs.Boundary.{boundaryVerdict, boundaryLeaves}
-use Rattle.corner.specs.Corner.{cornerAnswer}
-use Rattle.sheet.specs.declared.Judged.{Judged}
-use Rattle.sheet.specs.Sheet.{sheetAnswer}
-use Rattle.checker.specs.declared.Checked.{Checked}
-use Rattle.checker.specs.Check.{Checks}
-use Rattle.checker.proofs.Answers.{one-answer}
+use Rattle.calls.specs.declared.Refusal.{Refusal}
+use Rattle.calls.specs.declared.Verdict.{Verdict}
+use Rattle.calls.specs.declared.Verdict.the-variants.{Accepted, Refused}
+use Rattle.calls.proofs.Outcomes.{one-outcome}
+use Rattle.complex.specs.Cells.{cells}
 use Rattle.reducer.specs.declared.Reduced.{Reduced}
-use Rattle.reducer.specs.Reduce.{Reduces}
+use Rattle.reducer.specs.Reduce.{Reduces, Reduction, reduceVerdict}
 use Rattle.reducer.proofs.OneOutcome.{one-reduction}
-use Rattle.writer.specs.declared.Written.{Written}
-use Rattle.writer.specs.Write.{writeAnswer, writeLeaves}
-use Rattle.sketch.specs.Read.{readVerdict, readLeaves}
+use Rattle.kernel.specs.Face.{Fills}
+use Rattle.kernel.specs.Calls.{EmptyEnds, AuditEnds, ConeEnds, MergeEnds, IncidenceEnds, BoundaryEnds, CornerEnds, SheetEnds, ReduceEnds, CheckEnds, WriteEnds, ReadEnds}
 
--- an answer alone, of a call that writes nothing
-one : {A : Type 0} {a r r′ : A} → r ≡ a → r′ ≡ a → r ≡ r′
-one p q = p ∙ sym q
+-- a call that leaves a buffer and a value
+one-filling : {code value r r′ v v′ : ℕ} {left l l′ : List ℕ} → Fills code left value r l v → Fills code left value r′ l′ v′ → (r ≡ r′) × (l ≡ l′) × (v ≡ v′)
+one-filling p q = (p .answer ∙ sym (q .answer), p .buffer ∙ sym (q .buffer), p .told ∙ sym (q .told))
 
-pub one-empty : (t l l′ : List ℕ) (r r′ : Verdict) → Ends (emptyVerdict t) (emptyLeaves t) r l → Ends (emptyVerdict t) (emptyLeaves t) r′ l′ → (r ≡ r′) × (l ≡ l′)
+pub one-empty : (t l l′ : List ℕ) (r r′ : ℕ) → EmptyEnds t r l → EmptyEnds t r′ l′ → (r ≡ r′) × (l ≡ l′)
 one-empty t l l′ r r′ p q = one-outcome p q
 
-pub one-audit : (t : List ℕ) (r r′ : Verdict) → r ≡ verdict (auditGrounds t) → r′ ≡ verdict (auditGrounds t) → r ≡ r′
-one-audit t r r′ p q = one p q
+pub one-audit : (t : List ℕ) (r r′ : ℕ) → AuditEnds t r → AuditEnds t r′ → r ≡ r′
+one-audit t r r′ p q = p ∙ sym q
 
-pub one-cone : (t m l l′ : List ℕ) (r r′ : Named) → Ends (coneAnswer t m) (coneLeaves t m) r l → Ends (coneAnswer t m) (coneLeaves t m) r′ l′ → (r ≡ r′) × (l ≡ l′)
-one-cone t m l l′ r r′ p q = one-outcome p q
+pub one-cone : (t m l l′ : List ℕ) (a r r′ v v′ : ℕ) → ConeEnds t m a r l v → ConeEnds t m a r′ l′ v′ → (r ≡ r′) × (l ≡ l′) × (v ≡ v′)
+one-cone t m l l′ a r r′ v v′ p q = one-filling p q
 
-pub one-merge : (t : List ℕ) (a b : ℕ) (l l′ : List ℕ) (r r′ : Named) → Ends (mergeAnswer t a b) (mergeLeaves t a b) r l → Ends (mergeAnswer t a b) (mergeLeaves t a b) r′ l′ → (r ≡ r′) × (l ≡ l′)
-one-merge t a b l l′ r r′ p q = one-outcome p q
+pub one-merge : (t l l′ : List ℕ) (a b k r r′ v v′ : ℕ) → MergeEnds t a b k r l v → MergeEnds t a b k r′ l′ v′ → (r ≡ r′) × (l ≡ l′) × (v ≡ v′)
+one-merge t l l′ a b k r r′ v v′ p q = one-filling p q
 
-pub one-incidence : (t : List ℕ) (s u : ℕ) (r r′ : Sum) → r ≡ incidenceAnswer t s u → r′ ≡ incidenceAnswer t s u → r ≡ r′
-one-incidence t s u r r′ p q = one p q
+pub one-incidence : (t : List ℕ) (s u : ℕ) (z v v′ : ℤ) (r r′ : ℕ) → IncidenceEnds t s u z r v → IncidenceEnds t s u z r′ v′ → (r ≡ r′) × (v ≡ v′)
+one-incidence t s u z v v′ r r′ p q = one-outcome p q
 
-pub one-boundary : (t : List ℕ) (x : List ℤ) (p : ℕ) (b l l′ : List ℤ) (r r′ : Verdict) → Ends (boundaryVerdict t x p b) (boundaryLeaves t x p b) r l → Ends (boundaryVerdict t x p b) (boundaryLeaves t x p b) r′ l′ → (r ≡ r′) × (l ≡ l′)
+pub one-boundary : (t : List ℕ) (x : List ℤ) (p : ℕ) (b l l′ : List ℤ) (r r′ : ℕ) → BoundaryEnds t x p b r l → BoundaryEnds t x p b r′ l′ → (r ≡ r′) × (l ≡ l′)
 one-boundary t x p b l l′ r r′ e e′ = one-outcome e e′
 
-pub one-corner : (t : List ℕ) (c k : ℕ) (r r′ : Named) → r ≡ cornerAnswer t c k → r′ ≡ cornerAnswer t c k → r ≡ r′
-one-corner t c k r r′ p q = one p q
+pub one-corner : (t : List ℕ) (c k o r r′ v v′ : ℕ) → CornerEnds t c k o r v → CornerEnds t c k o r′ v′ → (r ≡ r′) × (v ≡ v′)
+one-corner t c k o r r′ v v′ p q = one-outcome p q
 
-pub one-sheet : (t : List ℕ) (r r′ : Judged) → r ≡ sheetAnswer t → r′ ≡ sheetAnswer t → r ≡ r′
-one-sheet t r r′ p q = one p q
+pub one-sheet : (t : List ℕ) (o r r′ v v′ : ℕ) → SheetEnds t o r v → SheetEnds t o r′ v′ → (r ≡ r′) × (v ≡ v′)
+one-sheet t o r r′ v v′ p q = one-outcome p q
 
-pub one-reduce : (t ev : List ℕ) (r r′ : Reduced) (l l′ : List ℕ) → Reduces t ev r l → Reduces t ev r′ l′ → (r ≡ r′) × (l ≡ l′)
-one-reduce = one-reduction
+pub one-check : (t ev c h c′ h′ c″ h″ : List ℕ) (o r r′ w w′ : ℕ) → CheckEnds t ev c h o r c′ h′ w → CheckEnds t ev c h o r′ c″ h″ w′ → (r ≡ r′) × (c′ ≡ c″) × (h′ ≡ h″) × (w ≡ w′)
+one-check t ev c h c′ h′ c″ h″ o r r′ w w′ p q = (
+  p .answer ∙ sym (q .answer),
+  p .cells-told ∙ sym (q .cells-told),
+  p .holes-told ∙ sym (q .holes-told),
+  p .row-told ∙ sym (q .row-told),
+)
 
-pub one-check : (t ev : List ℕ) (r r′ : Checked) → Checks t ev r → Checks t ev r′ → r ≡ r′
-one-check = one-answer
+-- what the exported reducer leaves where it accepts is what the call beneath it may leave
+reduces : (t ev ev′ a : List ℕ) → reduceVerdict t ev ≡ Accepted → Reduction (cells t) ev′ a → Reduces t ev (record { verdict = Accepted; additions = a }) ev′
+reduces t ev ev′ a e d =
+    record {
+      verdict-is = sym e;
+      refused-none = λ x f. let z : _≡_ {A = ℕ} 0 1 = cc in absurd (omega arith);
+      refused-left = λ x f. let z : _≡_ {A = ℕ} 0 1 = cc in absurd (omega arith);
+      accepted = λ f. d;
+    }
 
-pub one-write : (t d l l′ : List ℕ) (r r′ : Written) → Ends (writeAnswer t d) (writeLeaves t d) r l → Ends (writeAnswer t d) (writeLeaves t d) r′ l′ → (r ≡ r′) × (l ≡ l′)
-one-write t d l l′ r r′ p q = one-outcome p q
+pub one-reduce : (t ev a₀ l a l′ a′ : List ℕ) (r r′ : ℕ) → ReduceEnds t ev a₀ r l a → ReduceEnds t ev a₀ r′ l′ a′ → (r ≡ r′) × (l ≡ l′) × (a ≡ a′)
+one-reduce t ev a₀ l a l′ a′ r r′ p q = go (reduceVerdict t ev) refl
+  where
+    go : (v : Verdict) → reduceVerdict t ev ≡ v → (r ≡ r′) × (l ≡ l′) × (a ≡ a′)
+    go Accepted e =
+        let same = one-reduction t ev _ _ l l′ (reduces t ev l a e (p .accepted e)) (reduces t ev l′ a′ e (q .accepted e)) in
+        (p .answer ∙ sym (q .answer), same .1, ap (λ (x : Reduced). x .additions) (same .0))
+    go (Refused x) e =
+        let mine = p .refused-left x e in
+        let other = q .refused-left x e in
+        (p .answer ∙ sym (q .answer), mine .0 ∙ sym (other .0), mine .1 ∙ sym (other .1))
 
-pub one-read : (t f l l′ : List ℕ) (r r′ : Verdict) → Ends (readVerdict t f) (readLeaves t f) r l → Ends (readVerdict t f) (readLeaves t f) r′ l′ → (r ≡ r′) × (l ≡ l′)
+pub one-write : (t d l l′ : List ℕ) (o r r′ v v′ : ℕ) → WriteEnds t d o r l v → WriteEnds t d o r′ l′ v′ → (r ≡ r′) × (l ≡ l′) × (v ≡ v′)
+one-write t d l l′ o r r′ v v′ p q = one-filling p q
+
+pub one-read : (t f l l′ : List ℕ) (r r′ : ℕ) → ReadEnds t f r l → ReadEnds t f r′ l′ → (r ≡ r′) × (l ≡ l′)
 one-read t f l l′ r r′ p q = one-outcome p q

@@ -6,12 +6,13 @@ use Prim.Native.Nat.{ℕ, _+_}
 use native.Mathlib.Omega.{arith}
 use lib.ListN.{replicate}
 use Rattle.homology.specs.Evidence.{cellsIn, holesIn}
-use Rattle.table.specs.Calls.{Ends}
-use Rattle.table.specs.Words.{listed}
-use Rattle.table.specs.Numbers.{numberOf, rowNamed}
-use Rattle.table.specs.declared.Refusal.{Refusal}
-use Rattle.table.specs.declared.Verdict.{Verdict}
-use Rattle.table.specs.declared.Verdict.the-variants.{Accepted, Refused}
+use Rattle.calls.specs.Calls.{Ends}
+use Rattle.counting.specs.Counting.{listed}
+use Rattle.calls.specs.Numbers.{numberOf, rowNamed}
+use Rattle.calls.specs.declared.Refusal.{Refusal}
+use Rattle.calls.specs.declared.Verdict.{Verdict}
+use Rattle.calls.specs.declared.Verdict.the-variants.{Accepted, Refused}
+use Rattle.table.specs.Kind.{dimensions}
 use Rattle.complex.specs.Cells.{cells}
 use Rattle.rows.specs.Rows.{rows}
 use Rattle.checker.specs.Check.{checkVerdict, perDimension, Checks}
@@ -19,7 +20,8 @@ use Rattle.checker.specs.declared.Checked.{Checked}
 use Rattle.reducer.specs.Reduce.{Reduces, Reduction, reduceVerdict}
 use Rattle.reducer.specs.declared.Reduced.{Reduced}
 use Rattle.writer.specs.declared.Written.{Written}
-use Rattle.kernel.specs.Face.{code, writtenCode, writtenValue, sevenAfter, rowAfter, Fills, CheckEnds, ReduceEnds}
+use Rattle.kernel.specs.Face.{code, writtenCode, writtenValue, sevenAfter, rowAfter, Fills}
+use Rattle.kernel.specs.Calls.{CheckEnds, ReduceEnds}
 
 -- a verdict's code
 pub coded : {B : Type 0} {v w : Verdict} {b l : B} {r : ℕ} → Ends v b w l → r ≡ code w → Ends (code v) b r l
@@ -68,8 +70,8 @@ module _ (t ev : List ℕ) (r : Checked) (h : Checks t ev r) (cells₀ holes₀ 
       let v : checkVerdict t ev ≡ Accepted = sym (h .verdict-is) ∙ e in
       record {
         answer = sym (ap code v);
-        cells-told = h .cells-are ∙ ap (λ w. perDimension w (cellsIn (cells t))) v ∙ sym (ap (λ w. sevenAfter w (listed 7 (cellsIn (cells t))) cells₀) v);
-        holes-told = h .holes-are ∙ ap (λ w. perDimension w (holesIn (cells t) (rows t ev))) v ∙ sym (ap (λ w. sevenAfter w (listed 7 (holesIn (cells t) (rows t ev))) holes₀) v);
+        cells-told = h .cells-are ∙ ap (λ w. perDimension w (cellsIn (cells t))) v ∙ sym (ap (λ w. sevenAfter w (listed dimensions (cellsIn (cells t))) cells₀) v);
+        holes-told = h .holes-are ∙ ap (λ w. perDimension w (holesIn (cells t) (rows (cells t) ev))) v ∙ sym (ap (λ w. sevenAfter w (listed dimensions (holesIn (cells t) (rows (cells t) ev))) holes₀) v);
         row-told = sym (ap (λ w. rowAfter w row₀) v);
       }
 
@@ -78,7 +80,7 @@ module _ (t ev : List ℕ) (r : Checked) (h : Checks t ev r) (cells₀ holes₀ 
       let v : checkVerdict t ev ≡ Refused x = sym (h .verdict-is) ∙ e in
       record {
         answer = a .answer ∙ sym (ap code v);
-        cells-told = sym (ap (λ w. sevenAfter w (listed 7 (cellsIn (cells t))) cells₀) v);
-        holes-told = sym (ap (λ w. sevenAfter w (listed 7 (holesIn (cells t) (rows t ev))) holes₀) v);
+        cells-told = sym (ap (λ w. sevenAfter w (listed dimensions (cellsIn (cells t))) cells₀) v);
+        holes-told = sym (ap (λ w. sevenAfter w (listed dimensions (holesIn (cells t) (rows (cells t) ev))) holes₀) v);
         row-told = a .left ∙ sym (ap (λ w. rowAfter w row₀) v);
       }

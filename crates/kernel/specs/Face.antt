@@ -5,18 +5,12 @@ use mathlib.Core.Path.{_≡_}
 use mathlib.Core.List.{List}
 use Prim.Native.Nat.{ℕ}
 use lib.IntN.{ℤ}
-use Rattle.table.specs.Numbers.{numberOf, rowNamed}
-use Rattle.table.specs.Words.{listed}
-use Rattle.homology.specs.Evidence.{cellsIn, holesIn}
-use Rattle.complex.specs.Cells.{cells}
-use Rattle.rows.specs.Rows.{rows}
-use Rattle.checker.specs.Check.{checkVerdict}
-use Rattle.reducer.specs.Reduce.{Reduction, reduceVerdict}
-use Rattle.table.specs.declared.Refusal.{Refusal}
-use Rattle.table.specs.declared.Verdict.{Verdict}
-use Rattle.table.specs.declared.Verdict.the-variants.{Accepted, Refused}
-use Rattle.table.specs.declared.Named.{Named}
-use Rattle.table.specs.declared.Named.the-variants.{Cell, NoCell}
+use Rattle.calls.specs.Numbers.{numberOf, rowNamed}
+use Rattle.calls.specs.declared.Refusal.{Refusal}
+use Rattle.calls.specs.declared.Verdict.{Verdict}
+use Rattle.calls.specs.declared.Verdict.the-variants.{Accepted, Refused}
+use Rattle.calls.specs.declared.Named.{Named}
+use Rattle.calls.specs.declared.Named.the-variants.{Cell, NoCell}
 use Rattle.reading.specs.declared.Sum.{Sum}
 use Rattle.reading.specs.declared.Sum.the-variants.{Is, NoSum}
 use Rattle.sheet.specs.declared.Judged.{Judged}
@@ -79,16 +73,3 @@ pub record Fills (code : ℕ) (left : List ℕ) (value r : ℕ) (l : List ℕ) (
   pub answer : r ≡ code
   pub buffer : l ≡ left
   pub told : v ≡ value
-
--- the checker: live cells and hole numbers on acceptance, the row with 13 and 14
-pub record CheckEnds (t ev cells₀ holes₀ : List ℕ) (row₀ r : ℕ) (cells₁ holes₁ : List ℕ) (row₁ : ℕ) : Type 0 where
-  pub answer : r ≡ code (checkVerdict t ev)
-  pub cells-told : cells₁ ≡ sevenAfter (checkVerdict t ev) (listed 7 (cellsIn (cells t))) cells₀
-  pub holes-told : holes₁ ≡ sevenAfter (checkVerdict t ev) (listed 7 (holesIn (cells t) (rows t ev))) holes₀
-  pub row-told : row₁ ≡ rowAfter (checkVerdict t ev) row₀
-
--- the reducer: rows and counts by its rule on acceptance, nothing changed on a refusal
-pub record ReduceEnds (t ev additions₀ : List ℕ) (r : ℕ) (ev′ additions₁ : List ℕ) : Type 0 where
-  pub answer : r ≡ code (reduceVerdict t ev)
-  pub refused-left : (x : Refusal) → reduceVerdict t ev ≡ Refused x → (ev′ ≡ ev) × (additions₁ ≡ additions₀)
-  pub accepted : reduceVerdict t ev ≡ Accepted → Reduction t ev′ additions₁

@@ -1,23 +1,14 @@
 // The face for C and Rust: one function for each public call, no logic of its own. Each answers 0 or the refusal's number, and writes
-// a value on acceptance alone.
+// a value on acceptance alone; the checker's row is written with 13 and 14 alone. A 7 in a signature is the number of dimensions, as the
+// header for C has it.
 ghost use mathlib.Core.Path.{_≡_};
-ghost use Prim.Native.Nat.{ℕ};
-ghost use Rattle.table.specs.Calls.{verdict, Ends};
-ghost use Rattle.table.specs.Audit.{auditGrounds};
-ghost use Rattle.audit.specs.Empty.{emptyVerdict, emptyLeaves};
-ghost use Rattle.merge.specs.Merge.{mergeAnswer, mergeLeaves};
-ghost use Rattle.cone.specs.Cone.{coneAnswer, coneLeaves};
-ghost use Rattle.reading.specs.Incidence.{incidenceAnswer};
-ghost use Rattle.reading.specs.Boundary.{boundaryVerdict, boundaryLeaves};
-ghost use Rattle.corner.specs.Corner.{cornerAnswer};
-ghost use Rattle.sheet.specs.Sheet.{sheetAnswer};
-ghost use Rattle.writer.specs.Write.{writeAnswer, writeLeaves};
-ghost use Rattle.sketch.specs.Read.{readVerdict, readLeaves};
-ghost use Rattle.kernel.specs.Face.{code, namedCode, namedValue, sumCode, sumValue, judgedCode, judgedValue, writtenCode, writtenValue, Fills, CheckEnds, ReduceEnds};
+ghost use Rattle.calls.specs.Calls.{Ends};
+ghost use Rattle.kernel.specs.Face.{code, namedCode, namedValue};
+ghost use Rattle.kernel.specs.Calls.{EmptyEnds, AuditEnds, ConeEnds, MergeEnds, IncidenceEnds, BoundaryEnds, CornerEnds, SheetEnds, ReduceEnds, CheckEnds, WriteEnds, ReadEnds};
+use calls::Named;
+use calls::Verdict;
 use reading::Sum;
 use sheet::Judged;
-use table::Named;
-use table::Verdict;
 use writer::Written;
 
 // 0 for an accepted call, else the refusal's number.
@@ -26,7 +17,7 @@ fn code_of(v: Verdict) -> u32
 {
     match v {
         Verdict::Accepted => 0,
-        Verdict::Refused(r) => table::number(r),
+        Verdict::Refused(r) => calls::number(r),
     }
 }
 
@@ -39,41 +30,41 @@ fn name_cell(n: Named, value: &mut u16) -> u32
             *value = c;
             0
         }
-        Named::NoCell(r) => table::number(r),
+        Named::NoCell(r) => calls::number(r),
     }
 }
 
 #[no_mangle]
 pub extern "C" fn bt_empty(table: &mut [u16]) -> u32
-    ensures { λ r. ⌜ Ends (code (emptyVerdict (now (table .entry)))) (emptyLeaves (now (table .entry))) r (now (table .exit)) ⌝ }
+    ensures { λ r. ⌜ EmptyEnds (now (table .entry)) r (now (table .exit)) ⌝ }
 {
     code_of(audit::empty(table))
 }
 
 #[no_mangle]
 pub extern "C" fn bt_audit(table: &[u16]) -> u32
-    ensures { λ r. ⌜ r ≡ code (verdict (auditGrounds (now (table .entry)))) ⌝ }
+    ensures { λ r. ⌜ AuditEnds (now (table .entry)) r ⌝ }
 {
     code_of(audit::audit(table))
 }
 
 #[no_mangle]
 pub extern "C" fn bt_cone(table: &mut [u16], marks: &[u64], apex: &mut u16) -> u32
-    ensures { λ r. ⌜ Fills (namedCode (coneAnswer (now (table .entry)) (now (marks .entry)))) (coneLeaves (now (table .entry)) (now (marks .entry))) (namedValue (coneAnswer (now (table .entry)) (now (marks .entry))) (now (apex .entry))) r (now (table .exit)) (now (apex .exit)) ⌝ }
+    ensures { λ r. ⌜ ConeEnds (now (table .entry)) (now (marks .entry)) (now (apex .entry)) r (now (table .exit)) (now (apex .exit)) ⌝ }
 {
     name_cell(cone::cone(table, marks), apex)
 }
 
 #[no_mangle]
 pub extern "C" fn bt_merge(table: &mut [u16], a: u16, b: u16, kept: &mut u16) -> u32
-    ensures { λ r. ⌜ Fills (namedCode (mergeAnswer (now (table .entry)) a b)) (mergeLeaves (now (table .entry)) a b) (namedValue (mergeAnswer (now (table .entry)) a b) (now (kept .entry))) r (now (table .exit)) (now (kept .exit)) ⌝ }
+    ensures { λ r. ⌜ MergeEnds (now (table .entry)) a b (now (kept .entry)) r (now (table .exit)) (now (kept .exit)) ⌝ }
 {
     name_cell(merge::merge(table, a, b), kept)
 }
 
 #[no_mangle]
 pub extern "C" fn bt_incidence(table: &[u16], cell: u16, face: u16, sum: &mut i64) -> u32
-    ensures { λ r. ⌜ Ends (sumCode (incidenceAnswer (now (table .entry)) cell face)) (sumValue (incidenceAnswer (now (table .entry)) cell face) (now (sum .entry))) r (now (sum .exit)) ⌝ }
+    ensures { λ r. ⌜ IncidenceEnds (now (table .entry)) cell face (now (sum .entry)) r (now (sum .exit)) ⌝ }
 {
     let answer = reading::incidence(table, cell, face);
     match answer {
@@ -81,7 +72,7 @@ pub extern "C" fn bt_incidence(table: &[u16], cell: u16, face: u16, sum: &mut i6
             *sum = z;
             0
         }
-        Sum::NoSum(r) => table::number(r),
+        Sum::NoSum(r) => calls::number(r),
     }
 }
 
@@ -92,21 +83,21 @@ pub extern "C" fn bt_boundary(
     dimension: u16,
     boundary: &mut [i64],
 ) -> u32
-    ensures { λ r. ⌜ Ends (code (boundaryVerdict (now (table .entry)) (now (chain .entry)) dimension (now (boundary .entry)))) (boundaryLeaves (now (table .entry)) (now (chain .entry)) dimension (now (boundary .entry))) r (now (boundary .exit)) ⌝ }
+    ensures { λ r. ⌜ BoundaryEnds (now (table .entry)) (now (chain .entry)) dimension (now (boundary .entry)) r (now (boundary .exit)) ⌝ }
 {
     code_of(reading::boundary(table, chain, dimension, boundary))
 }
 
 #[no_mangle]
 pub extern "C" fn bt_corner(table: &[u16], cell: u16, k: u16, corner: &mut u16) -> u32
-    ensures { λ r. ⌜ Ends (namedCode (cornerAnswer (now (table .entry)) cell k)) (namedValue (cornerAnswer (now (table .entry)) cell k) (now (corner .entry))) r (now (corner .exit)) ⌝ }
+    ensures { λ r. ⌜ CornerEnds (now (table .entry)) cell k (now (corner .entry)) r (now (corner .exit)) ⌝ }
 {
     name_cell(corner::corner(table, cell, k), corner)
 }
 
 #[no_mangle]
 pub extern "C" fn bt_sheet(table: &[u16], yes: &mut u8) -> u32
-    ensures { λ r. ⌜ Ends (judgedCode (sheetAnswer (now (table .entry)))) (judgedValue (sheetAnswer (now (table .entry))) (now (yes .entry))) r (now (yes .exit)) ⌝ }
+    ensures { λ r. ⌜ SheetEnds (now (table .entry)) (now (yes .entry)) r (now (yes .exit)) ⌝ }
 {
     let answer = sheet::sheet(table);
     match answer {
@@ -118,7 +109,7 @@ pub extern "C" fn bt_sheet(table: &[u16], yes: &mut u8) -> u32
             *yes = 0;
             0
         }
-        Judged::NotJudged(r) => table::number(r),
+        Judged::NotJudged(r) => calls::number(r),
     }
 }
 
@@ -134,7 +125,7 @@ pub extern "C" fn bt_reduce(table: &[u16], evidence: &mut [u64], additions: &mut
             *additions = counts;
             0
         }
-        Verdict::Refused(r) => table::number(r),
+        Verdict::Refused(r) => calls::number(r),
     }
 }
 
@@ -158,13 +149,13 @@ pub extern "C" fn bt_check(
             *holes = found;
             0
         }
-        Verdict::Refused(r) => table::name_row(r, row),
+        Verdict::Refused(r) => calls::name_row(r, row),
     }
 }
 
 #[no_mangle]
 pub extern "C" fn bt_write(table: &[u16], target: &mut [u8], written: &mut usize) -> u32
-    ensures { λ r. ⌜ Fills (writtenCode (writeAnswer (now (table .entry)) (now (target .entry)))) (writeLeaves (now (table .entry)) (now (target .entry))) (writtenValue (writeAnswer (now (table .entry)) (now (target .entry))) (now (written .entry))) r (now (target .exit)) (now (written .exit)) ⌝ }
+    ensures { λ r. ⌜ WriteEnds (now (table .entry)) (now (target .entry)) (now (written .entry)) r (now (target .exit)) (now (written .exit)) ⌝ }
 {
     let answer = writer::write(table, target);
     match answer {
@@ -172,13 +163,13 @@ pub extern "C" fn bt_write(table: &[u16], target: &mut [u8], written: &mut usize
             *written = n;
             0
         }
-        Written::NotWritten(r) => table::number(r),
+        Written::NotWritten(r) => calls::number(r),
     }
 }
 
 #[no_mangle]
 pub extern "C" fn bt_read(table: &mut [u16], file: &[u8]) -> u32
-    ensures { λ r. ⌜ Ends (code (readVerdict (now (table .entry)) (now (file .entry)))) (readLeaves (now (table .entry)) (now (file .entry))) r (now (table .exit)) ⌝ }
+    ensures { λ r. ⌜ ReadEnds (now (table .entry)) (now (file .entry)) r (now (table .exit)) ⌝ }
 {
     code_of(reader::read(table, file))
 }

@@ -11,15 +11,15 @@ use borrow.Author.Tests.{eq-eqb, ne-eqb}
 use lib.Dec.{eqb}
 use Rattle.table.specs.Kind.{faces}
 use Rattle.table.specs.Table.{dim, face, live, Valid}
-use Rattle.table.specs.Audit.{all}
-use Rattle.table.specs.Calls.{named, leaves, Ends}
-use Rattle.table.specs.declared.Refusal.{Refusal}
-use Rattle.table.specs.declared.Verdict.{Verdict}
-use Rattle.table.specs.declared.Verdict.the-variants.{Accepted, Refused}
-use Rattle.table.specs.declared.Named.{Named}
-use Rattle.table.specs.declared.Named.the-variants.{Cell, NoCell}
+use Rattle.counting.specs.Counting.{all}
+use Rattle.calls.specs.Calls.{named, leaves, Ends}
+use Rattle.calls.specs.declared.Refusal.{Refusal}
+use Rattle.calls.specs.declared.Verdict.{Verdict}
+use Rattle.calls.specs.declared.Verdict.the-variants.{Accepted, Refused}
+use Rattle.calls.specs.declared.Named.{Named}
+use Rattle.calls.specs.declared.Named.the-variants.{Cell, NoCell}
 use Rattle.counting.proofs.Cases.{same-or-not}
-use Rattle.audit.proofs.Outcomes.{one-outcome}
+use Rattle.calls.proofs.Outcomes.{one-outcome}
 use Rattle.merge.specs.Merge.{IsIdentification, sameFaces, mergeVerdict, merged, mergeAnswer, mergeLeaves}
 use Rattle.merge.proofs.Renaming.{renamed-both-ways}
 use Rattle.merge.proofs.Verdicts.{merge-accepted}
@@ -75,12 +75,6 @@ merge-accepted-leaves t a b e =
 
 pub merge-refused-leaves : (t : List ℕ) (a b : ℕ) (r : Refusal) → mergeVerdict t a b ≡ Refused r → mergeLeaves t a b ≡ t
 merge-refused-leaves t a b r e = ap (λ v. leaves v (merged t a b) t) e
-
--- Two permitted outcomes are equal.
-pub merge-one-outcome :
-    (t : List ℕ) (a b : ℕ) (r r′ : Named) (u u′ : List ℕ) → Ends (mergeAnswer t a b) (mergeLeaves t a b) r u →
-    Ends (mergeAnswer t a b) (mergeLeaves t a b) r′ u′ → (r ≡ r′) × (u ≡ u′)
-merge-one-outcome t a b r r′ u u′ e f = one-outcome e f
 
 -- The ways out of the call.
 pub ends-refused :

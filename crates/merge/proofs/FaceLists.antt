@@ -13,9 +13,9 @@ use lib.Seq.{ext-getD, getD-take}
 use Rattle.counting.specs.Counting.{pick}
 use Rattle.table.specs.Kind.{faces, used}
 use Rattle.table.specs.Table.{dim, face, facesOf, Live, Valid}
-use Rattle.table.specs.declared.Refusal.{Refusal}
-use Rattle.table.specs.declared.Refusal.the-variants.{FacesDiffer}
-use Rattle.table.specs.declared.Verdict.the-variants.{Accepted, Refused}
+use Rattle.calls.specs.declared.Refusal.{Refusal}
+use Rattle.calls.specs.declared.Refusal.the-variants.{FacesDiffer}
+use Rattle.calls.specs.declared.Verdict.the-variants.{Accepted, Refused}
 use Rattle.counting.proofs.Cases.{below-or-not}
 use Rattle.table.proofs.Records.{faces-at, live-says}
 use Rattle.audit.proofs.Valid.{valid-is-sound, valid-is-sized}
@@ -67,12 +67,3 @@ module _ (t : List ℕ) (a b : ℕ) (v : Valid t) (x : Live t a) (y : Live t b) 
     λ r e. let z : _≡_ {A = ℕ} 0 1 = cc (r .1, equal-lists-accepted e) in omega arith,
     λ m. (FacesDiffer, different-lists-refused m),
   )
-
--- So a merge is accepted exactly where nothing stands against it.
-pub merge-accepted-iff : (t : List ℕ) (a b : ℕ) → (mergeVerdict t a b ≡ Accepted) ↔ Mergeable t a b
-merge-accepted-iff t a b = (
-  merge-accepted t a b,
-  λ m.
-      decided t a b (m .valid) (m .first) (m .second) (m .different) (m .same-dim) true
-      (same-faces-says t a b (m .same-faces)),
-)

@@ -49,8 +49,8 @@ module _ (t : List ℕ) (a b : ℕ) (t′ t″ : List ℕ) (s : Sized t) (i : Is
       (i .freed-dim ∙ sym (k .freed-dim))
       (λ n. i .kept-dim c h n ∙ sym (k .kept-dim c h n))
 
-  same-face : (c j : ℕ) → c < cellsOf t → j < faces → (c ≡ max a b → ⊥) → face t′ c j ≡ face t″ c j
-  same-face c j h l n =
+  same-faces : (c j : ℕ) → c < cellsOf t → j < faces → (c ≡ max a b → ⊥) → face t′ c j ≡ face t″ c j
+  same-faces c j h l n =
       ⊎-elim
       (λ e. i .named-face c j h l n e ∙ sym (k .named-face c j h l n e))
       (λ m. i .other-face c j h l n m ∙ sym (k .other-face c j h l n m))
@@ -58,8 +58,12 @@ module _ (t : List ℕ) (a b : ℕ) (t′ t″ : List ℕ) (s : Sized t) (i : Is
 
   pub identification-determines : t′ ≡ t″
   identification-determines =
-      table-by-records t′ t″ (cellsOf t) (i .size ∙ s .whole) (k .size ∙ s .whole) same-dims
-      (λ c j h l.
-      same-or-other (λ d. face t′ d j ≡ face t″ d j) c (max a b)
-      (i .freed-face j l ∙ sym (k .freed-face j l))
-      (same-face c j h l))
+      table-by-records t′ t″ (cellsOf t) (i .size ∙ s .whole) (k .size ∙ s .whole)
+      (λ c h.
+      record {
+        same-dim = same-dims c h;
+        same-face = λ j l.
+            same-or-other (λ d. face t′ d j ≡ face t″ d j) c (max a b)
+            (i .freed-face j l ∙ sym (k .freed-face j l))
+            (same-faces c j h l);
+      })

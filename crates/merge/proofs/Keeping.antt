@@ -9,7 +9,7 @@ use Rattle.table.specs.Kind.{top, faces, freeMark, used}
 use Rattle.table.specs.Table.{cellsOf, dim, face, Live, Valid}
 use Rattle.counting.proofs.Cases.{below-or-not, same-or-not}
 use Rattle.table.proofs.Words.{table-by-records}
-use Rattle.audit.proofs.Places.{used-is, used-says, used-fits}
+use Rattle.table.proofs.Places.{used-is, used-says, used-fits}
 use Rattle.merge.specs.Rename.{renamed, identify}
 use Rattle.merge.specs.Merge.{merged}
 use Rattle.merge.proofs.Renaming.{length-renamed, cellsOf-renamed, sized-renamed, dim-fixed, face-fixed, dim-moved, face-moved, live-after, live-before, fixed-where-live, identify-larger, identify-other, identify-keeps, identify-once}
@@ -141,7 +141,8 @@ module _ (ρ : ℕ → ℕ) (t : List ℕ) (v : Valid t) (mark : ρ freeMark ≡
 
   pub renamed-stays : renamed ρ t ≡ t
   renamed-stays =
-      table-by-records (renamed ρ t) t (cellsOf t) (length-renamed ρ t) (v .sized .whole) dim-stays face-stays
+      table-by-records (renamed ρ t) t (cellsOf t) (length-renamed ρ t) (v .sized .whole)
+      (λ c h. record { same-dim = dim-stays c h; same-face = λ j l. face-stays c j h l })
 
 -- two numbers in their order
 ordered : (a b : ℕ) → ((min a b ≡ a) × (max a b ≡ b)) ⊎ ((min a b ≡ b) × (max a b ≡ a))

@@ -11,16 +11,15 @@ use lib.Dec.{eqb}
 use Rattle.counting.proofs.Cases.{not-true-false}
 use Rattle.table.specs.Kind.{faces}
 use Rattle.table.specs.Table.{dim, face, facesOf, live}
-use Rattle.table.specs.Audit.{auditGrounds}
-use Rattle.table.specs.Calls.{verdict}
-use Rattle.table.specs.declared.Refusal.{Refusal}
-use Rattle.table.specs.declared.Refusal.the-variants.{NotLive, SameCell, DimensionsDiffer, FacesDiffer}
-use Rattle.table.specs.declared.Verdict.the-variants.{Accepted, Refused}
+use Rattle.audit.specs.Audit.{auditGrounds}
+use Rattle.calls.specs.Calls.{verdict}
+use Rattle.calls.specs.declared.Refusal.{Refusal}
+use Rattle.calls.specs.declared.Refusal.the-variants.{NotLive, SameCell, DimensionsDiffer, FacesDiffer}
+use Rattle.calls.specs.declared.Verdict.the-variants.{Accepted, Refused}
 use Rattle.table.proofs.Records.{faces-at}
-use Rattle.audit.proofs.Grounds.{accepted-first, refused-first}
-use Rattle.audit.proofs.Scans.{all-true, all-says}
-use Rattle.merge.specs.Merge.{sameFaces, mergeVerdict}
-use Rattle.merge.specs.Writing.{pairGrounds}
+use Rattle.calls.proofs.Grounds.{accepted-first, refused-first}
+use Rattle.counting.proofs.Tests.{all-true, all-says}
+use Rattle.merge.specs.Merge.{sameFaces, mergeVerdict, pairGrounds}
 
 module _ (t : List ℕ) (a b : ℕ) where
   -- all seven words agree exactly where the test says so

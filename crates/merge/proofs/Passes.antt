@@ -12,16 +12,15 @@ use lib.ListN.{length, getD, set}
 use lib.Seq.{getD-set-same, getD-set-other}
 use lib.Dec.{ltb, eqb}
 use Rattle.counting.specs.Counting.{pick}
-use Rattle.table.specs.Kind.{faces, freeMark}
-use Rattle.table.specs.Table.{cellsOf, dim, face, Sized}
-use Rattle.table.specs.Words.{tableOf}
-use Rattle.table.specs.Stores.{Stored}
+use Rattle.table.specs.Kind.{top, faces, freeMark}
+use Rattle.table.specs.Table.{cellsOf, dim, face, Sized, Valid}
+use Rattle.table.specs.Records.{Record, tableOf, freeRecord, Stored}
 use Rattle.counting.proofs.Cases.{below-or-not}
 use Rattle.table.proofs.Words.{length-tableOf, dim-tableOf, face-tableOf, table-by-records}
 use Rattle.table.proofs.Stores.{stored-table}
 use Rattle.merge.specs.Rename.{renamed, identify}
 use Rattle.merge.specs.Merge.{merged}
-use Rattle.merge.specs.Writing.{sent}
+use Rattle.merge.specs.Writing.{sent, sentRecord}
 use Rattle.merge.proofs.Renaming.{renamed-alike}
 
 -- one word more of a list that is written from its start on
@@ -41,52 +40,74 @@ sent-is-identify kept gone h f =
     let k : min kept gone ≡ kept = omega arith in
     simp (e, k)
 
-module _ (kept gone : ℕ) (t : List ℕ) where
-  abbrev passing : ℕ → ℕ → ℕ → ℕ
-  passing c d j = pick (ltb d c) (sent kept gone (face t d j)) (face t d j)
+-- a word that is not looked for stays
+pub sent-stays : (kept gone f : ℕ) → (f ≡ gone → ⊥) → sent kept gone f ≡ f
+sent-stays kept gone f h = rw (ne-eqb f gone h)
 
+module _ (kept gone : ℕ) (t : List ℕ) where
   -- the table of which the records below c have gone through the map
+  abbrev passing : ℕ → ℕ → Record
+  passing c d = record { dim = dim t d; face = λ j. pick (ltb d c) (sent kept gone (face t d j)) (face t d j) }
+
   abbrev pub partly : ℕ → List ℕ
-  partly c = tableOf (cellsOf t) (dim t) (passing c)
+  partly c = tableOf (cellsOf t) (passing c)
 
   pub partly-start : Sized t → t ≡ partly 0
   partly-start s =
-      table-by-records t (partly 0) (cellsOf t) (s .whole) (length-tableOf (cellsOf t) (dim t) (passing 0))
-      (λ d h. sym (dim-tableOf (cellsOf t) (dim t) (passing 0) d h))
-      (λ d j h l. sym (face-tableOf (cellsOf t) (dim t) (passing 0) d j h l ∙ rw (le-ltb d 0 (omega arith))))
+      table-by-records t (partly 0) (cellsOf t) (s .whole) (length-tableOf (cellsOf t) (passing 0))
+      (λ d h.
+      record {
+        same-dim = sym (dim-tableOf (cellsOf t) (passing 0) d h);
+        same-face = λ j l. sym (face-tableOf (cellsOf t) (passing 0) d j h l ∙ rw (le-ltb d 0 (omega arith)));
+      })
+
+  -- the dimensions stay, so where the table is valid no record begins with the number after them
+  dim-stays : (c d : ℕ) (u : List ℕ) → d < cellsOf t → u ≡ partly c → dim u d ≡ dim t d
+  dim-stays c d u h e = ap (λ v. dim v d) e ∙ dim-tableOf (cellsOf t) (passing c) d h
+
+  pub begins-none : Valid t → (c d : ℕ) (u : List ℕ) → d < cellsOf t → u ≡ partly c → dim u d ≡ top + 1 → ⊥
+  begins-none v c d u h e z =
+      let same : dim u d ≡ dim t d = dim-stays c d u h e in
+      ⊎-elim (λ low. omega arith) (λ free. omega arith) (v .records d h)
 
   -- one record more: record c with its own dimension, and its faces sent through the map
   pub partly-more :
-      (c : ℕ) (u u′ : List ℕ) → c < cellsOf t → u ≡ partly c → Stored c (dim u c) (λ j. sent kept gone (face u c j)) u u′ →
-      u′ ≡ partly (c + 1)
+      (c : ℕ) (u u′ : List ℕ) → c < cellsOf t → u ≡ partly c → Stored c (sentRecord kept gone u c) u u′ → u′ ≡ partly (c + 1)
   partly-more c u u′ h e s =
-      stored-table (cellsOf t) (dim t) (dim t) (passing c) (passing (c + 1)) u u′ c (dim u c)
-      (λ j. sent kept gone (face u c j)) e s
-      (ap (λ v. dim v c) e ∙ dim-tableOf (cellsOf t) (dim t) (passing c) c h)
-      (λ j l.
-      ap (λ v. sent kept gone (face v c j)) e
-      ∙ ap (sent kept gone) (face-tableOf (cellsOf t) (dim t) (passing c) c j h l)
-      ∙ simp (le-ltb c c (omega arith), lt-ltb c (c + 1) (omega arith)))
-      (λ d l n. refl)
-      (λ d j l m n.
-      ⊎-elim
-      (λ q. rw (lt-ltb d c q, lt-ltb d (c + 1) (omega arith)))
-      (λ q. rw (le-ltb d c q, le-ltb d (c + 1) (omega arith)))
-      (below-or-not d c))
+      stored-table (cellsOf t) (passing c) (passing (c + 1)) (sentRecord kept gone u c) u u′ c e s
+      (record {
+        same-dim = ap (λ v. dim v c) e ∙ dim-tableOf (cellsOf t) (passing c) c h;
+        same-face = λ j l.
+            ap (λ v. sent kept gone (face v c j)) e
+            ∙ ap (sent kept gone) (face-tableOf (cellsOf t) (passing c) c j h l)
+            ∙ simp (le-ltb c c (omega arith), lt-ltb c (c + 1) (omega arith));
+      })
+      (λ d l n.
+      record {
+        same-dim = refl;
+        same-face = λ j m.
+            ⊎-elim
+            (λ q. rw (lt-ltb d c q, lt-ltb d (c + 1) (omega arith)))
+            (λ q. rw (le-ltb d c q, le-ltb d (c + 1) (omega arith)))
+            (below-or-not d c);
+      })
 
   -- and at the end the freed record
   pub partly-end :
-      (c : ℕ) (u u′ : List ℕ) (g : ℕ → ℕ) → kept < gone → cellsOf t ≤ c → u ≡ partly c → Stored gone freeMark g u u′ →
-      ((j : ℕ) → j < faces → g j ≡ freeMark) → u′ ≡ merged t kept gone
+      (c : ℕ) (u u′ : List ℕ) (g : ℕ → ℕ) → kept < gone → cellsOf t ≤ c → u ≡ partly c →
+      Stored gone (record { dim = freeMark; face = g }) u u′ → ((j : ℕ) → j < faces → g j ≡ freeMark) → u′ ≡ merged t kept gone
   unfolding merged renamed
   partly-end c u u′ g less m e s frees =
-      stored-table (cellsOf t) (dim t)
-      (λ d. pick (eqb (sent kept gone d) d) (dim t d) freeMark)
-      (passing c)
-      (λ d j. pick (eqb (sent kept gone d) d) (sent kept gone (face t d j)) freeMark)
-      u u′ gone freeMark g e s
-      (simp (eq-eqb gone gone refl, ne-eqb kept gone (λ q. omega arith)))
-      (λ j l. frees j l ∙ simp (eq-eqb gone gone refl, ne-eqb kept gone (λ q. omega arith)))
-      (λ d l n. simp (ne-eqb d gone n, eq-eqb d d refl))
-      (λ d j l q n. simp (lt-ltb d c (omega arith), ne-eqb d gone n, eq-eqb d d refl))
+      stored-table (cellsOf t) (passing c)
+      (λ d. pick (eqb (sent kept gone d) d) (record { dim = dim t d; face = λ j. sent kept gone (face t d j) }) freeRecord)
+      (record { dim = freeMark; face = g }) u u′ gone e s
+      (record {
+        same-dim = simp (eq-eqb gone gone refl, ne-eqb kept gone (λ q. omega arith));
+        same-face = λ j l. frees j l ∙ simp (eq-eqb gone gone refl, ne-eqb kept gone (λ q. omega arith));
+      })
+      (λ d l n.
+      record {
+        same-dim = simp (ne-eqb d gone n, eq-eqb d d refl);
+        same-face = λ j q. simp (lt-ltb d c (omega arith), ne-eqb d gone n, eq-eqb d d refl);
+      })
       ∙ renamed-alike (sent kept gone) (identify kept gone) t (sent-is-identify kept gone less)

@@ -12,24 +12,22 @@ use lib.Dec.{eqb}
 use Rattle.counting.specs.Counting.{pick}
 use Rattle.table.specs.Kind.{faces, width, freeMark}
 use Rattle.table.specs.Table.{cellsOf, dim, face, Sized, Live}
+use Rattle.table.specs.Records.{Record, freeRecord}
 use Rattle.counting.proofs.Cases.{same-or-not}
 use Rattle.table.proofs.Words.{length-tableOf, cellsOf-tableOf, dim-tableOf, face-tableOf, table-by-records}
 use Rattle.merge.specs.Rename.{renamed, identify}
 
 module _ (ρ : ℕ → ℕ) (t : List ℕ) where
-  abbrev kept-dim : ℕ → ℕ
-  kept-dim c = pick (eqb (ρ c) c) (dim t c) freeMark
-
-  abbrev kept-face : ℕ → ℕ → ℕ
-  kept-face c j = pick (eqb (ρ c) c) (ρ (face t c j)) freeMark
+  abbrev kept : ℕ → Record
+  kept c = pick (eqb (ρ c) c) (record { dim = dim t c; face = λ j. ρ (face t c j) }) freeRecord
 
   pub length-renamed : length (renamed ρ t) ≡ cellsOf t * width
   unfolding renamed
-  length-renamed = length-tableOf (cellsOf t) kept-dim kept-face
+  length-renamed = length-tableOf (cellsOf t) kept
 
   pub cellsOf-renamed : cellsOf (renamed ρ t) ≡ cellsOf t
   unfolding renamed
-  cellsOf-renamed = cellsOf-tableOf (cellsOf t) kept-dim kept-face
+  cellsOf-renamed = cellsOf-tableOf (cellsOf t) kept
 
   pub sized-renamed : Sized t → Sized (renamed ρ t)
   sized-renamed s =
@@ -40,13 +38,13 @@ module _ (ρ : ℕ → ℕ) (t : List ℕ) where
         room = omega (arith, e, s .room);
       }
 
-  pub dim-renamed : (c : ℕ) → c < cellsOf t → dim (renamed ρ t) c ≡ kept-dim c
+  dim-renamed : (c : ℕ) → c < cellsOf t → dim (renamed ρ t) c ≡ kept c .dim
   unfolding renamed
-  dim-renamed c h = dim-tableOf (cellsOf t) kept-dim kept-face c h
+  dim-renamed c h = dim-tableOf (cellsOf t) kept c h
 
-  pub face-renamed : (c j : ℕ) → c < cellsOf t → j < faces → face (renamed ρ t) c j ≡ kept-face c j
+  face-renamed : (c j : ℕ) → c < cellsOf t → j < faces → face (renamed ρ t) c j ≡ kept c .face j
   unfolding renamed
-  face-renamed c j h l = face-tableOf (cellsOf t) kept-dim kept-face c j h l
+  face-renamed c j h l = face-tableOf (cellsOf t) kept c j h l
 
   -- a cell that is its own image keeps its dimension, and its faces go through the map
   pub dim-fixed : (c : ℕ) → c < cellsOf t → ρ c ≡ c → dim (renamed ρ t) c ≡ dim t c
@@ -80,13 +78,6 @@ module _ (ρ : ℕ → ℕ) (t : List ℕ) where
 -- maps that agree at every number rename alike
 pub renamed-alike : (ρ σ : ℕ → ℕ) (t : List ℕ) → ((c : ℕ) → ρ c ≡ σ c) → renamed ρ t ≡ renamed σ t
 renamed-alike ρ σ t e = ap (λ τ. renamed τ t) (fun-ext e)
-
--- a map that leaves every number alone leaves the table
-pub renamed-by-identity : (ρ : ℕ → ℕ) (t : List ℕ) → Sized t → ((c : ℕ) → ρ c ≡ c) → renamed ρ t ≡ t
-renamed-by-identity ρ t s e =
-    table-by-records (renamed ρ t) t (cellsOf t) (length-renamed ρ t) (s .whole)
-    (λ c h. dim-fixed ρ t c h (e c))
-    (λ c j h l. face-fixed ρ t c j h l (e c) ∙ e (face t c j))
 
 -- Two maps one after the other are their composition, where a number that both together leave in place was left by the first, and
 -- the second leaves the free mark.
@@ -136,7 +127,7 @@ module _ (ρ σ : ℕ → ℕ) (t : List ℕ) (mark : σ freeMark ≡ freeMark) 
       table-by-records (renamed σ (renamed ρ t)) (renamed both t) (cellsOf t)
       (length-renamed σ (renamed ρ t) ∙ ap (λ n. n * width) (cellsOf-renamed ρ t))
       (length-renamed both t)
-      dim-twice face-twice
+      (λ c h. record { same-dim = dim-twice c h; same-face = λ j l. face-twice c j h l })
 
 -- The map of an identification: the larger number goes to the smaller,
 pub identify-larger : (a b : ℕ) → identify a b (max a b) ≡ min a b
@@ -147,11 +138,6 @@ identify-larger a b = simp (eq-eqb (max a b) (max a b) refl)
 pub identify-other : (a b c : ℕ) → (c ≡ max a b → ⊥) → identify a b c ≡ c
 unfolding identify
 identify-other a b c n = simp (ne-eqb c (max a b) n)
-
--- and so nothing moves where both are one number,
-pub identify-itself : (a c : ℕ) → identify a a c ≡ c
-identify-itself a c =
-    ⊎-elim (λ e. ap (identify a a) e ∙ identify-larger a a ∙ omega arith) (identify-other a a c) (same-or-not c (max a a))
 
 -- a number that is neither stays,
 pub identify-keeps : (a b c : ℕ) → a < c → b < c → identify a b c ≡ c
@@ -176,11 +162,3 @@ identify-both-ways a b c = ap₂ (λ x y. pick (eqb c x) y c) (max-comm a b) (mi
 
 pub renamed-both-ways : (a b : ℕ) (t : List ℕ) → renamed (identify a b) t ≡ renamed (identify b a) t
 renamed-both-ways a b t = renamed-alike (identify a b) (identify b a) t (identify-both-ways a b)
-
--- and it never goes up.
-pub identify-down : (a b c : ℕ) → identify a b c ≤ c
-identify-down a b c =
-    ⊎-elim
-    (λ e. omega (arith, ap (identify a b) e ∙ identify-larger a b))
-    (λ n. omega (arith, identify-other a b c n))
-    (same-or-not c (max a b))

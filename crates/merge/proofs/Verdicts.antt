@@ -8,11 +8,11 @@ use borrow.Author.Tests.{eqb-true, eqb-false, not-false}
 use lib.Dec.{eqb}
 use Rattle.counting.proofs.Cases.{and-left, and-right}
 use Rattle.table.specs.Kind.{faces}
-use Rattle.table.specs.Table.{dim, face, Live, live, Valid}
-use Rattle.table.specs.Audit.{sized, sound}
-use Rattle.table.specs.declared.Verdict.the-variants.{Accepted}
+use Rattle.table.specs.Table.{dim, face, Live, live, Valid, sized}
+use Rattle.audit.specs.Audit.{sound}
+use Rattle.calls.specs.declared.Verdict.the-variants.{Accepted}
 use Rattle.table.proofs.Records.{live-true}
-use Rattle.audit.proofs.Grounds.{accepted-none-applies}
+use Rattle.calls.proofs.Grounds.{accepted-none-applies}
 use Rattle.audit.proofs.Valid.{sound-is-valid}
 use Rattle.merge.specs.Merge.{sameFaces, mergeGrounds, mergeVerdict}
 use Rattle.merge.proofs.Pairs.{same-faces-true}

@@ -2,18 +2,19 @@
 -- answers and leaves.
 -- A reader must believe these definitions; nothing here is proved.
 use mathlib.Core.Path.{_≡_}
-use mathlib.Core.Bool.{Bool, true, false, _&&_, not}
+use mathlib.Core.Bool.{Bool, _&&_, not}
 use mathlib.Core.List.{List, [], _∷_}
 use Prim.Native.Nat.{ℕ, _<_, min, max}
 use lib.ListN.{length, take}
 use lib.Dec.{eqb}
 use Rattle.table.specs.Kind.{faces, freeMark, used}
 use Rattle.table.specs.Table.{cellsOf, dim, face, facesOf, live}
-use Rattle.table.specs.Audit.{all, onLength, onValidity}
-use Rattle.table.specs.Calls.{Ground, verdict, named, leaves}
-use Rattle.table.specs.declared.Refusal.the-variants.{NotLive, SameCell, DimensionsDiffer, FacesDiffer}
-use Rattle.table.specs.declared.Verdict.{Verdict}
-use Rattle.table.specs.declared.Named.{Named}
+use Rattle.counting.specs.Counting.{all}
+use Rattle.audit.specs.Audit.{grounds}
+use Rattle.calls.specs.Calls.{Ground, verdict, named, leaves}
+use Rattle.calls.specs.declared.Refusal.the-variants.{NotLive, SameCell, DimensionsDiffer, FacesDiffer}
+use Rattle.calls.specs.declared.Verdict.{Verdict}
+use Rattle.calls.specs.declared.Named.{Named}
 use Rattle.merge.specs.Rename.{renamed, identify}
 
 -- The published rule: the smaller number is kept, the other record becomes free, and every face that named the larger names the
@@ -34,15 +35,17 @@ faceList t c = take (used (dim t c)) (facesOf t c)
 unfoldable pub sameFaces : List ℕ → ℕ → ℕ → Bool
 sameFaces t a b = all faces (λ j. eqb (face t a j) (face t b j))
 
-abbrev pub mergeGrounds : List ℕ → ℕ → ℕ → List Ground
-mergeGrounds t a b =
-    onLength t
-    ∷ onValidity t
-    ∷ record { refusal = NotLive; applies = not (live t a && live t b) }
+-- the grounds that speak of the two cells, in their order
+abbrev pub pairGrounds : List ℕ → ℕ → ℕ → List Ground
+pairGrounds t a b =
+    record { refusal = NotLive; applies = not (live t a && live t b) }
     ∷ record { refusal = SameCell; applies = eqb a b }
     ∷ record { refusal = DimensionsDiffer; applies = not (eqb (dim t a) (dim t b)) }
     ∷ record { refusal = FacesDiffer; applies = not (sameFaces t a b) }
     ∷ []
+
+abbrev pub mergeGrounds : List ℕ → ℕ → ℕ → List Ground
+mergeGrounds t a b = grounds t (pairGrounds t a b)
 
 unfoldable pub mergeVerdict : List ℕ → ℕ → ℕ → Verdict
 mergeVerdict t a b = verdict (mergeGrounds t a b)

@@ -7,13 +7,11 @@ use lib.Dec.{eqb}
 use Rattle.counting.specs.Counting.{pick}
 use Rattle.table.specs.Kind.{freeMark}
 use Rattle.table.specs.Table.{cellsOf, dim, face}
-use Rattle.table.specs.Words.{tableOf}
+use Rattle.table.specs.Records.{tableOf, freeRecord}
 
 unfoldable pub renamed : (ℕ → ℕ) → List ℕ → List ℕ
 renamed ρ t =
-    tableOf (cellsOf t)
-    (λ c. pick (eqb (ρ c) c) (dim t c) freeMark)
-    (λ c j. pick (eqb (ρ c) c) (ρ (face t c j)) freeMark)
+    tableOf (cellsOf t) (λ c. pick (eqb (ρ c) c) (record { dim = dim t c; face = λ j. ρ (face t c j) }) freeRecord)
 
 -- the map that sends the larger of two numbers to the smaller, and every other number to itself
 unfoldable pub identify : ℕ → ℕ → ℕ → ℕ

@@ -1,15 +1,16 @@
-// Merge, the identification of two cells: every face compared, in order; then one pass over the face words.
+// Merge, the identification of two cells: every face compared, in order; then one pass over the records.
 ghost use mathlib.Core.Path.{_≡_};
-ghost use Prim.Native.Nat.{_<_};
-ghost use Rattle.table.specs.Table.{cellsOf, dim as dimOf, face as faceOf, Sized};
-ghost use Rattle.table.specs.Stores.{Stored};
-ghost use Rattle.table.specs.Calls.{verdict, Ends};
-ghost use Rattle.merge.specs.Merge.{sameFaces, mergeVerdict, mergeAnswer, mergeLeaves, merged};
-ghost use Rattle.merge.specs.Writing.{pairGrounds, sent as sentTo};
-use table::Named;
-use table::Refusal;
+ghost use Prim.Native.Nat.{_+_, _<_};
+ghost use Rattle.table.specs.Kind.{top};
+ghost use Rattle.table.specs.Table.{cellsOf, dim as dimOf, face as faceOf, Valid};
+ghost use Rattle.table.specs.Records.{Stored};
+ghost use Rattle.calls.specs.Calls.{verdict, Ends};
+ghost use Rattle.merge.specs.Merge.{sameFaces, pairGrounds, mergeVerdict, mergeAnswer, mergeLeaves, merged};
+ghost use Rattle.merge.specs.Writing.{sent as sentTo, sentRecord};
+use calls::Named;
+use calls::Refusal;
+use calls::Verdict;
 use table::Table;
-use table::Verdict;
 
 // Whether two records have the same face words, place by place.
 fn same_faces(t: &[u16], a: usize, b: usize) -> bool
@@ -38,12 +39,16 @@ fn sent(f: u16, kept: u16, gone: u16) -> u16
     f
 }
 
-// Renames the faces of record c: its dimension stays, even where it is the freed number.
+// The first number that is no dimension: no record of a valid table begins with it.
+const NO_DIMENSION: u16 = Table::TOP + 1;
+
+// Renames the faces of record c. Its dimension stays, even where it is the freed number: it takes the same step as the faces, only in
+// search of a number that it is not. So all eight words of a record go one way, and are compared and written at once.
 fn rename(t: &mut [u16], c: usize, kept: u16, gone: u16)
-    requires { ⌜ c < cellsOf (now t) ⌝ }
-    ensures { λ _. ⌜ Stored c (dimOf (now (t .entry)) c) (λ j. sentTo kept gone (faceOf (now (t .entry)) c j)) (now (t .entry)) (now (t .exit)) ⌝ }
+    requires { ⌜ (c < cellsOf (now t)) × (dimOf (now t) c ≡ top + 1 → ⊥) ⌝ }
+    ensures { λ _. ⌜ Stored c (sentRecord kept gone (now (t .entry)) c) (now (t .entry)) (now (t .exit)) ⌝ }
 {
-    let p = Table::dim(t, c);
+    let p = sent(Table::dim(t, c), kept, NO_DIMENSION);
     let x = Table::faces(t, c);
     let mut y = x;
     let mut l = 0;
@@ -56,7 +61,7 @@ fn rename(t: &mut [u16], c: usize, kept: u16, gone: u16)
 
 // Every face word, in every record, that names the freed number names the kept one; then the freed record's words are free.
 fn join(t: &mut [u16], kept: u16, gone: u16)
-    requires { ⌜ (kept < gone) × (gone < cellsOf (now t)) × Sized (now t) ⌝ }
+    requires { ⌜ (kept < gone) × (gone < cellsOf (now t)) × Valid (now t) ⌝ }
     ensures { λ _. ⌜ now (t .exit) ≡ merged (now (t .entry)) kept gone ⌝ }
 {
     let n = Table::room(t);

@@ -1,24 +1,26 @@
 -- What the reader answers and leaves, way by way out of the code.
 -- What carries it: each test decides its own ground, in the order of the four; only the length's has the number 1. Assumes nothing.
 use mathlib.Core.Path.{_≡_, refl, ap, sym, _∙_}
-use mathlib.Core.Bool.{Bool, true, false, not}
+use mathlib.Core.Bool.{Bool, true, false, _&&_, not}
 use mathlib.Core.List.{List, [], _∷_}
 use Prim.Native.Nat.{ℕ, _*_, _/_, _%_, _≤_}
 use native.Mathlib.Omega.{arith}
+use borrow.Author.Tests.{not-false}
 use lib.ListN.{length, replicate}
 use lib.Dec.{eqb, leb}
 use Rattle.counting.specs.Counting.{pick}
 use Rattle.table.specs.Kind.{capacity, width, freeMark}
-use Rattle.table.specs.Table.{cellsOf, sizedCells}
-use Rattle.table.specs.Audit.{sized, sound, auditGrounds}
-use Rattle.table.specs.Calls.{Ground, verdict, onVerdict, Ends}
-use Rattle.table.specs.Numbers.{numberOf}
-use Rattle.table.specs.declared.Refusal.the-variants.{Length, Invalid, BadContents, BadNumber}
-use Rattle.table.specs.declared.Verdict.{Verdict}
-use Rattle.table.specs.declared.Verdict.the-variants.{Accepted, Refused}
-use Rattle.table.proofs.Records.{sized-cells-is}
-use Rattle.audit.specs.Empty.{emptied, emptyLeaves}
-use Rattle.audit.proofs.Sizes.{sized-is-sized, sized-says, no-cells, some-cells}
+use Rattle.table.specs.Table.{cellsOf, sized, onLength}
+use Rattle.audit.specs.Audit.{sound, onValidity, auditGrounds}
+use Rattle.calls.specs.Calls.{Ground, verdict, onVerdict, Ends}
+use Rattle.calls.specs.Numbers.{numberOf}
+use Rattle.calls.specs.declared.Refusal.{Refusal}
+use Rattle.calls.specs.declared.Refusal.the-variants.{Length, Invalid, BadContents, BadNumber}
+use Rattle.calls.specs.declared.Verdict.{Verdict}
+use Rattle.calls.specs.declared.Verdict.the-variants.{Accepted, Refused}
+use Rattle.audit.specs.Empty.{emptyVerdict, emptied, emptyLeaves}
+use Rattle.calls.proofs.Grounds.{accepted-none-applies}
+use Rattle.table.proofs.Sizes.{sized-is-sized, sized-says}
 use Rattle.sketch.specs.Read.{contentsFit, numbersFit, described, readVerdict, readLeaves}
 use Rattle.sketch.proofs.Described.{described-sized}
 
@@ -27,7 +29,7 @@ abbrev pub fileGrounds : ℕ → List ℕ → List Ground
 fileGrounds n f =
     record { refusal = BadContents; applies = not (contentsFit n f) }
     ∷ record { refusal = BadNumber; applies = not (numbersFit n f) }
-    ∷ record { refusal = Invalid; applies = not (sound (described n f)) }
+    ∷ onValidity (described n f)
     ∷ []
 
 -- what a table of n cells says to a file
@@ -48,7 +50,7 @@ module _ (n : ℕ) (f : List ℕ) where
 sized-by-length : (t u : List ℕ) → length u ≡ length t → sized u ≡ sized t
 unfolding sized
 sized-by-length t u e =
-    ap (λ m. not (eqb (pick (eqb (m % width) 0) (pick (leb (m / width) capacity) (m / width) 0) 0) 0)) e
+    ap (λ m. eqb (m % width) 0 && (leb 1 (m / width) && leb (m / width) capacity)) e
 
 empties : (t : List ℕ) → sized t ≡ true → emptyLeaves t ≡ replicate (length t) freeMark
 unfolding emptied
@@ -64,21 +66,29 @@ not-kept false true c x y z = refl
 not-kept false false true x y z = refl
 not-kept false false false x y z = refl
 
--- the length is no table's
-pub ends-length :
-    (t f u : List ℕ) (n : ℕ) → n ≡ sizedCells t → n ≡ 0 → u ≡ emptyLeaves t → Ends (readVerdict t f) (readLeaves t f) (Refused Length) u
-unfolding readVerdict
-ends-length t f u n e z a = let s = no-cells t (sym e ∙ z) in record { answer = simp s; left = a ∙ simp s }
+-- where emptying refuses, the length is no table's, so the reader refuses alike and no word changes
+length-refused : (b : Bool) (r : Refusal) → pick (not b) (Refused Length) Accepted ≡ Refused r → (b ≡ false) × (r ≡ Length)
+length-refused false r e = (refl, cc)
+length-refused true r e = absurd (let z : _≡_ {A = ℕ} 0 1 = cc in omega arith)
 
--- the length is that of a table of n cells
+pub ends-length :
+    (t f u : List ℕ) (r : Refusal) → emptyVerdict t ≡ Refused r → u ≡ emptyLeaves t → Ends (readVerdict t f) (readLeaves t f) (Refused r) u
+unfolding readVerdict
+ends-length t f u r e a =
+    let k = length-refused (sized t) r e in
+    record { answer = ap Refused (k .1) ∙ simp (k .0); left = a ∙ simp (k .0) }
+
+-- else the length is that of a table of n cells
 pub record OfCells (t : List ℕ) (n : ℕ) : Type 0 where
   pub size : sized t ≡ true
   pub cells : n ≡ cellsOf t
 
-pub of-cells : (t : List ℕ) (n : ℕ) → n ≡ sizedCells t → (n ≡ 0 → ⊥) → OfCells t n
-of-cells t n e h =
-    let s = some-cells t (λ z. h (e ∙ z)) in
-    record { size = s; cells = e ∙ sized-cells-is t (sized-is-sized t s) }
+pub of-cells : (t u : List ℕ) (n : ℕ) → emptyVerdict t ≡ Accepted → length u ≡ length t → n ≡ cellsOf u → OfCells t n
+of-cells t u n e l h =
+    record {
+      size = not-false (sized t) (accepted-none-applies (onLength t ∷ []) e .0);
+      cells = h ∙ ap (λ m. m / width) l;
+    }
 
 module _ {t : List ℕ} {n : ℕ} (o : OfCells t n) where
   -- a table of this length, emptied

@@ -6,19 +6,21 @@ use mathlib.Core.List.{List}
 use mathlib.Core.Logic.{inl, inr, ⊎-elim}
 use Prim.Native.Nat.{ℕ, suc, _+_, _*_, _≤_, _<_}
 use native.Mathlib.Omega.{arith}
-use lib.ListN.{length, replicate, length-replicate, getD-replicate}
-use Rattle.table.specs.Kind.{faces, width, freeMark}
-use Rattle.table.specs.Table.{dim, face}
-use Rattle.table.proofs.Words.{table-by-records}
+use lib.ListN.{length, replicate, length-replicate}
+use Rattle.table.specs.Kind.{width, freeMark, dimensions}
+use Rattle.table.specs.Table.{cellsOf}
+use Rattle.table.specs.Records.{recordAt, freeRecord, Alike}
+use Rattle.table.proofs.Words.{table-by-records, one-dim, one-face}
+use Rattle.table.proofs.Stores.{alike-then, alike-back, alike-in}
 use Rattle.counting.proofs.Cases.{below-or-not, true-or-false}
 use Rattle.counting.specs.Counting.{someHas}
 use Rattle.counting.proofs.Counting.{someHas-each, someHas-one}
-use Rattle.sketch.specs.Form.{dimensions, bodyStart}
+use Rattle.sketch.specs.Form.{bodyStart}
 use Rattle.sketch.specs.Read.{countIn, recordIn, numberIn, faceIn, inBody, numbersFit, described}
 use Rattle.sketch.proofs.Fits.{Numbered, fit-numbers}
 use Rattle.sketch.proofs.Bodies.{body-has, body-one, dimIn-none, dimIn-number, placeIn-number}
-use Rattle.sketch.proofs.Described.{described-length, described-dim, described-face, described-unused}
-use Rattle.reader.specs.Taking.{facesAt, Holds, Earlier, Unmet, Taken}
+use Rattle.sketch.proofs.Described.{described-length, described-alike, described-dim, described-unused}
+use Rattle.reader.specs.Taking.{facesAt, recordFrom, Earlier, Unmet, Taken}
 use Rattle.reader.proofs.Contents.{record-first}
 use Rattle.reader.proofs.Steps.{Going}
 
@@ -33,10 +35,9 @@ taken-none n f t e =
       size = ap length e ∙ length-replicate (n * width) freeMark;
       met = λ q k w. absurd (none-earlier f q k w);
       free = λ c h m.
-          record {
-            dims = ap (λ u. dim u c) e ∙ getD-replicate (n * width) _ freeMark 0 (omega arith);
-            sides = λ j l. ap (λ u. face u c j) e ∙ getD-replicate (n * width) _ freeMark 0 (omega arith);
-          };
+          alike-then (alike-in t (replicate (n * width) freeMark) c e)
+          (let l : c < cellsOf (replicate (n * width) freeMark) = omega (arith, length-replicate (n * width) freeMark) in
+          record { same-dim = one-dim (n * width) freeMark c l; same-face = λ j k. one-face (n * width) freeMark c j l k });
       order = λ q k w. absurd (none-earlier f q k w);
     }
 
@@ -89,31 +90,26 @@ module _ (n : ℕ) (f t : List ℕ) (w : Taken n f t dimensions 0) where
 
   -- the table and what the file describes have the same record c
   abbrev Same : ℕ → Type 0
-  Same c = (dim t c ≡ dim (described n f) c) × ((j : ℕ) → j < faces → face t c j ≡ face (described n f) c j)
-
-  same : (c p : ℕ) (g : ℕ → ℕ) → Holds t c p g → Holds (described n f) c p g → Same c
-  same c p g a b = (a .dims ∙ sym (b .dims), λ j l. a .sides j l ∙ sym (b .sides j l))
+  Same c = Alike (recordAt t c) (recordAt (described n f) c)
 
   -- the cells of the bodies
-  described-met : (p i : ℕ) → p < dimensions → i < countIn f p → Holds (described n f) (numberIn f p i) p (facesAt f p (recordIn f p i))
+  described-met : (p i : ℕ) → p < dimensions → i < countIn f p → Alike (recordAt (described n f) (numberIn f p i)) (recordFrom f p (recordIn f p i))
   unfolding facesAt faceIn
   described-met p i h l =
-      let inside : numberIn f p i < n = numbered .below p i h l in
-      record {
-        dims = described-dim n f (numberIn f p i) inside ∙ dimIn-number f n numbered p i h l;
-        sides = λ j m.
-            described-face n f (numberIn f p i) j inside m
-            ∙ rw (dimIn-number f n numbered p i h l, placeIn-number f n numbered p i h l);
-      }
+      alike-then (described-alike n f (numberIn f p i) (numbered .below p i h l))
+      (record {
+        same-dim = dimIn-number f n numbered p i h l;
+        same-face = λ j m. rw (dimIn-number f n numbered p i h l, placeIn-number f n numbered p i h l);
+      })
 
   -- and the others, which are free
   module _ (c : ℕ) (e : someHas (λ p. inBody f p c) dimensions ≡ false) where
-    described-free : c < n → Holds (described n f) c freeMark (λ j. freeMark)
+    described-free : c < n → Alike (recordAt (described n f) c) freeRecord
     described-free h =
         let z = dimIn-none f c (someHas-each (λ p. inBody f p c) dimensions e) in
         record {
-          dims = described-dim n f c h ∙ z;
-          sides = λ j l. described-unused n f c freeMark j h z (omega arith) l;
+          same-dim = described-dim n f c h ∙ z;
+          same-face = λ j l. described-unused n f c freeMark j h z (omega arith) l;
         }
 
     unmet-all : Unmet f dimensions 0 c
@@ -127,13 +123,13 @@ module _ (n : ℕ) (f t : List ℕ) (w : Taken n f t dimensions 0) where
       (λ e.
       let b = someHas-one (λ p. inBody f p c) dimensions e in
       let i = body-one f (b .0) c (b .2) in
-      subst Same (i .2) (same _ _ _ (w .met (b .0) (i .0) (inl (b .1, i .1))) (described-met (b .0) (i .0) (b .1) (i .1))))
-      (λ e. same c _ _ (w .free c h (unmet-all c e)) (described-free c e h))
+      subst Same (i .2) (alike-then (w .met (b .0) (i .0) (inl (b .1, i .1))) (alike-back (described-met (b .0) (i .0) (b .1) (i .1)))))
+      (λ e. alike-then (w .free c h (unmet-all c e)) (alike-back (described-free c e h)))
       (true-or-false (someHas (λ p. inBody f p c) dimensions))
 
   taken-described : t ≡ described n f
   taken-described =
-      table-by-records t (described n f) n (w .size) (described-length n f) (λ c h. each-cell c h .0) (λ c j h l. each-cell c h .1 j l)
+      table-by-records t (described n f) n (w .size) (described-length n f) each-cell
 
 pub bodies-end :
     (n : ℕ) (f t : List ℕ) (p : ℕ) → p ≤ dimensions → dimensions ≤ p → Taken n f t p 0 → (true ≡ numbersFit n f) × (t ≡ described n f)

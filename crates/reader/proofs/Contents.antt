@@ -7,9 +7,9 @@ use Prim.Native.Nat.{ℕ, _+_, _*_, _≤_, _<_}
 use native.Mathlib.Nat.{add-mul, add-assoc, mul-le-mul-left, mul-le-mul-right}
 use native.Mathlib.Omega.{arith}
 use lib.ListN.{length}
-use Rattle.table.specs.Kind.{top}
+use Rattle.table.specs.Kind.{top, dimensions}
 use Rattle.counting.proofs.Cases.{not-true-false}
-use Rattle.sketch.specs.Form.{twoAt, fourAt, dimensions, contentsSize, offsetPlace, recordSize, bodyStart}
+use Rattle.sketch.specs.Form.{twoAt, fourAt, contentsSize, offsetPlace, recordSize, bodyStart}
 use Rattle.sketch.specs.Read.{countIn, recordIn, contentsFit}
 use Rattle.sketch.proofs.Fits.{Fits, contents-fit, fit-contents}
 use Rattle.sketch.proofs.Sizes.{bodyStart-more, bodyStart-grows}

@@ -9,17 +9,17 @@ use Prim.Native.Nat.{ℕ, _+_, _≤_, _<_}
 use native.Mathlib.Omega.{arith}
 use borrow.Author.Count.{below-more}
 use lib.ListN.{getD}
-use Rattle.table.specs.Kind.{freeMark}
+use Rattle.table.specs.Kind.{freeMark, used, dimensions}
 use Rattle.table.specs.Table.{dim}
-use Rattle.table.specs.Stores.{Stored}
-use Rattle.table.proofs.Stores.{stored-alike}
+use Rattle.table.specs.Records.{Record, recordAt, freeRecord, Alike, Stored}
+use Rattle.table.proofs.Stores.{alike-then, stored-alike}
 use Rattle.counting.proofs.Cases.{not-true-false}
-use Rattle.sketch.specs.Form.{twoAt, dimensions, recordSize}
+use Rattle.sketch.specs.Form.{twoAt, facePlace}
 use Rattle.sketch.specs.Read.{countIn, recordIn, numberIn, inBody, numbersFit}
 use Rattle.sketch.proofs.Fits.{numbers-fit}
 use Rattle.sketch.proofs.Bodies.{body-has, body-one}
 use Rattle.sketch.proofs.Rising.{rising-far}
-use Rattle.reader.specs.Taking.{facesAt, FacesAre, Holds, Earlier, Unmet, InOrder, Taken}
+use Rattle.reader.specs.Taking.{facesAt, FacesAre, recordFrom, Earlier, Unmet, InOrder, Taken}
 use Rattle.reader.proofs.Contents.{record-next}
 
 -- Before record i of body p, which stands at this place: `low` is the least number above those before it in the body.
@@ -64,47 +64,46 @@ module _ (n : ℕ) (f : List ℕ) (p : ℕ) (t : List ℕ) (at low i : ℕ) (g :
       let o = numbers-fit n f z in
       let up : low ≤ c = g .least c (λ k m. omega (arith, rising-far (numberIn f p) (countIn f p) (λ j. o .rising p j h) k i m l)) in
       let inside : c < n = omega (arith, o .below p i h l) in
-      fails up inside (g .taken .free c inside (unmet c up (λ q m. ap (inBody f q) a ∙ o .alone p i q h l m)) .dims))
+      fails up inside (g .taken .free c inside (unmet c up (λ q m. ap (inBody f q) a ∙ o .alone p i q h l m)) .same-dim))
 
   module _ (inside : numberIn f p i < n) (up : low ≤ numberIn f p i) (free : dim t (numberIn f p i) ≡ freeMark) where
     -- a free record's number was not met, and is in no lower body
     apart : Unmet f p i (numberIn f p i)
-    apart q k e z = omega (arith, earlier-low f p i q k h e, g .taken .met q k e .dims, ap (dim t) z)
+    apart q k e z = omega (arith, earlier-low f p i q k h e, g .taken .met q k e .same-dim, ap (dim t) z)
 
     none-lower : (q : ℕ) → q < p → inBody f q (numberIn f p i) ≡ false
     none-lower q l =
         not-true-false (inBody f q (numberIn f p i))
         (λ e. let w = body-one f q (numberIn f p i) e in apart q (w .0) (inl (l, w .1)) (w .2))
 
-    module _ (u : List ℕ) (s : Stored (numberIn f p i) p (facesAt f p (recordIn f p i)) t u) where
+    module _ (u : List ℕ) (s : Stored (numberIn f p i) (recordFrom f p (recordIn f p i)) t u) where
       -- every other record stays
-      kept : (c q : ℕ) (d : ℕ → ℕ) → (c ≡ numberIn f p i → ⊥) → Holds t c q d → Holds u c q d
-      kept c q d ne w =
-          record { dims = s .dim-else c ne ∙ w .dims; sides = λ j l. s .face-else c j ne l ∙ w .sides j l }
+      kept : (c : ℕ) (r : Record) → (c ≡ numberIn f p i → ⊥) → Alike (recordAt t c) r → Alike (recordAt u c) r
+      kept c r ne w = alike-then (s .else c ne) w
 
       taken-more : Taken n f u p (i + 1)
       taken-more =
           record {
             size = s .size ∙ g .taken .size;
-            met = earlier-more f p i (λ q k. Holds u (numberIn f q k) q (facesAt f q (recordIn f q k)))
-                (λ q k e. kept (numberIn f q k) q _ (apart q k e) (g .taken .met q k e))
-                (record { dims = s .dim-here; sides = s .face-here });
+            met = earlier-more f p i (λ q k. Alike (recordAt u (numberIn f q k)) (recordFrom f q (recordIn f q k)))
+                (λ q k e. kept (numberIn f q k) (recordFrom f q (recordIn f q k)) (apart q k e) (g .taken .met q k e))
+                (s .here);
             free = λ c l m.
-                kept c _ _ (λ e. m p i (inr (refl, omega arith)) (sym e)) (g .taken .free c l (unmet-less f p i c m));
+                kept c freeRecord (λ e. m p i (inr (refl, omega arith)) (sym e)) (g .taken .free c l (unmet-less f p i c m));
             order = earlier-more f p i (InOrder n f) (g .taken .order) (inside, λ k l. omega (arith, g .above k l), none-lower);
           }
 
   pub going-more :
-      (c b : ℕ) (u fs : List ℕ) → c ≡ twoAt f at → low ≤ c → c < n → dim t c ≡ freeMark → b ≡ recordSize p →
-      FacesAre fs (facesAt f p at) → Stored c p (λ j. getD fs j 0) t u →
+      (c m b : ℕ) (u fs : List ℕ) → c ≡ twoAt f at → low ≤ c → c < n → dim t c ≡ freeMark → m ≡ used p → b ≡ facePlace m →
+      FacesAre fs (facesAt f m at) → Stored c (record { dim = p; face = λ j. getD fs j 0 }) t u →
       Going n f p u (at + b) (c + 1) (i + 1)
-  going-more c b u fs e up inside free z filled s =
+  going-more c m b u fs e up inside free is z filled s =
       let a : c ≡ numberIn f p i = number-at f p i at c (g .place) e in
       record {
-        place = record-next f p i at b (g .place) z;
+        place = record-next f p i at b (g .place) (omega arith);
         above = below-more (λ k. numberIn f p k < c + 1) i (λ k l. omega (arith, g .above k l)) (omega arith);
-        least = λ x m. omega (arith, m i (omega arith));
+        least = λ x l. omega (arith, l i (omega arith));
         taken = taken-more (omega arith) (omega arith) (subst (λ x. dim t x ≡ freeMark) a free) u
-            (stored-alike refl (λ j l. filled j l ∙ ap (λ x. facesAt f p x j) (g .place))
-            (subst (λ x. Stored x p (λ j. getD fs j 0) t u) a s));
+            (stored-alike (record { same-dim = refl; same-face = λ j l. filled j l ∙ rw (is, g .place) })
+            (subst (λ x. Stored x (record { dim = p; face = λ j. getD fs j 0 }) t u) a s));
       }

@@ -9,22 +9,21 @@ use lib.ListN.{length, getD}
 use lib.Dec.{ltb}
 use Rattle.counting.specs.Counting.{pick}
 use Rattle.table.specs.Kind.{faces, width, freeMark, used}
-use Rattle.table.specs.Table.{dim, face}
+use Rattle.table.specs.Records.{Record, recordAt, freeRecord, Alike}
 use Rattle.sketch.specs.Form.{twoAt, facePlace}
 use Rattle.sketch.specs.Read.{countIn, recordIn, numberIn, inBody, numbersFit}
 
--- the face words of the p-cell whose record stands at this place: those that it does not use are free
+-- the face words of the cell of u faces whose record stands at this place: those that it does not use are free
 unfoldable pub facesAt : List ℕ → ℕ → ℕ → ℕ → ℕ
-facesAt f p at j = pick (ltb j (used p)) (twoAt f (at + facePlace j)) freeMark
+facesAt f u at j = pick (ltb j u) (twoAt f (at + facePlace j)) freeMark
 
 -- seven words by value are the faces g
 abbrev pub FacesAre : List ℕ → (ℕ → ℕ) → Type 0
 FacesAre fs g = (j : ℕ) → j < faces → getD fs j 0 ≡ g j
 
--- record c has dimension p and faces g
-pub record Holds (t : List ℕ) (c p : ℕ) (g : ℕ → ℕ) : Type 0 where
-  pub dims : dim t c ≡ p
-  pub sides : (j : ℕ) → j < faces → face t c j ≡ g j
+-- the record of the p-cell that stands at this place
+abbrev pub recordFrom : List ℕ → ℕ → ℕ → Record
+recordFrom f p at = record { dim = p; face = facesAt f (used p) at }
 
 -- record k of body q comes before record i of body p
 abbrev pub Earlier : List ℕ → ℕ → ℕ → ℕ → ℕ → Type 0
@@ -44,8 +43,8 @@ InOrder n f q k =
 -- The table of n cells has every record before record i of body p, and is free elsewhere; and the numbers of those records are in order.
 pub record Taken (n : ℕ) (f t : List ℕ) (p i : ℕ) : Type 0 where
   pub size : length t ≡ n * width
-  pub met : (q k : ℕ) → Earlier f p i q k → Holds t (numberIn f q k) q (facesAt f q (recordIn f q k))
-  pub free : (c : ℕ) → c < n → Unmet f p i c → Holds t c freeMark (λ j. freeMark)
+  pub met : (q k : ℕ) → Earlier f p i q k → Alike (recordAt t (numberIn f q k)) (recordFrom f q (recordIn f q k))
+  pub free : (c : ℕ) → c < n → Unmet f p i c → Alike (recordAt t c) freeRecord
   pub order : (q k : ℕ) → Earlier f p i q k → InOrder n f q k
 
 -- whether body p was taken in: if not, a number of the file is not in order

@@ -19,8 +19,8 @@ use Rattle.table.specs.Kind.{faces}
 use Rattle.table.specs.Table.{face}
 use Rattle.counting.proofs.Cases.{same-or-not}
 use Rattle.reading.specs.Sums.{sumTo, integers}
-use Rattle.reading.specs.Boundary.{limit}
-use Rattle.reading.specs.Steps.{turned, placeAdds, put, added, Adding}
+use Rattle.reading.specs.Boundary.{limit, turned, placeAdds}
+use Rattle.reading.specs.Steps.{put, added, Adding}
 use Rattle.reading.proofs.SumLaws.{sum-none, sum-next}
 use Rattle.reading.proofs.Sizes.{size-add, size-minus, size-sum, fits-below}
 use Rattle.reading.proofs.Registers.{back, back-is}

@@ -15,11 +15,11 @@ use mir.Val.{SFits, ofZ}
 use Rattle.table.specs.Kind.{used}
 use Rattle.table.specs.Table.{cellsOf, face, isCell}
 use Rattle.counting.proofs.Cases.{below-or-not}
-use Rattle.audit.proofs.Scans.{or-else, all-true}
-use Rattle.audit.proofs.Places.{used-fits}
+use Rattle.counting.proofs.Tests.{or-else, all-true}
+use Rattle.table.proofs.Places.{used-fits}
 use Rattle.reading.specs.Sums.{sumTo, integers}
-use Rattle.reading.specs.Boundary.{boundaryOf, limit, coefficient}
-use Rattle.reading.specs.Steps.{placeAdds, reached, added, allSmall, allPlaced, Adding, Addable}
+use Rattle.reading.specs.Boundary.{boundaryOf, limit, coefficient, allSmall, allPlaced, placeAdds, reached}
+use Rattle.reading.specs.Steps.{added, Adding, Addable}
 use Rattle.reading.proofs.Lists.{integers-length, integers-at, is-integers}
 use Rattle.reading.proofs.Living.{CellOf, cell-true}
 use Rattle.reading.proofs.BoundaryLaws.{boundary-is-published}
@@ -29,9 +29,9 @@ use Rattle.reading.proofs.Adding.{adding-back}
 use Rattle.reading.proofs.Reaching.{reached-none, reached-past, reached-cell, reached-all, size-reached}
 
 -- what the two tests of a chain say of each coefficient
-each-small : (x : List ℤ) → allSmall x ≡ true → (c : ℕ) → c < length x → natAbs (coefficient x c) ≤ limit
+each-small : (n : ℕ) (x : List ℤ) → allSmall n x ≡ true → (c : ℕ) → c < n → natAbs (coefficient x c) ≤ limit
 unfolding allSmall
-each-small x e c l = leb-true (natAbs (coefficient x c)) limit (all-true (smallAt x) (length x) e c l)
+each-small n x e c l = leb-true (natAbs (coefficient x c)) limit (all-true (smallAt x) n e c l)
 
 each-placed : (t : List ℕ) (x : List ℤ) (p : ℕ) → allPlaced t x p ≡ true → (c : ℕ) → c < cellsOf t → (coefficient x c ≡ pos 0 → ⊥) → isCell t p c ≡ true
 unfolding allPlaced
@@ -41,7 +41,7 @@ each-placed t x p e c l h =
 
 module _ (t : List ℕ) (x : List ℤ) (p : ℕ) (y₀ : List ℤ) (a : Addable t x p y₀) where
   small-here : (c : ℕ) → c < cellsOf t → natAbs (coefficient x c) ≤ limit
-  small-here c l = each-small x (a .small) c (omega (arith, a .long))
+  small-here = each-small (cellsOf t) x (a .small)
 
   pub none-reached : y₀ ≡ integers (cellsOf t) (reached t p (coefficient x) 0)
   none-reached =
@@ -59,23 +59,23 @@ module _ (t : List ℕ) (x : List ℤ) (p : ℕ) (y₀ : List ℤ) (a : Addable 
     room-here h u =
         ⊎-elim
         (λ l. rw (reached-at u l) (omega (arith, size-reached t p (coefficient x) small-here c u h, a .valid .sized .room)))
-        (λ l. let k : length y ≤ u = omega (arith, reached-long) in rw (List·getD-eq-default y (pos 0) k) (omega arith))
+        (λ (l : cellsOf t ≤ u). let k : length y ≤ u = omega (arith, reached-long) in rw (List·getD-eq-default y (pos 0) k) (omega arith))
         (below-or-not u (cellsOf t))
 
-    -- the next cell can be added,
-    cell-fits : c < cellsOf t → (coefficient x c ≡ pos 0 → ⊥) → Adding t c (used p) (coefficient x c) y
-    cell-fits l h =
+    -- the next cell can be added at any of its places,
+    cell-fits : (m : ℕ) → m ≤ used p → c < cellsOf t → (coefficient x c ≡ pos 0 → ⊥) → Adding t c m (coefficient x c) y
+    cell-fits m few l h =
         let k : CellOf t p c = cell-true t p c (each-placed t x p (a .placed) c l h) in
         record {
           inside = l;
-          places = used-fits p;
-          faces-inside = λ j i. subst (λ (n : ℕ). face t c j < n) (sym reached-long) (a .valid .face-live c j (k .alive) (subst (λ (q : ℕ). j < used q) (sym (k .level)) i) .inside);
+          places = omega (arith, used-fits p);
+          faces-inside = λ j i. subst (λ (n : ℕ). face t c j < n) (sym reached-long) (a .valid .face-live c j (k .alive) (subst (λ (q : ℕ). j < used q) (sym (k .level)) (omega arith)) .inside);
           small = small-here c l;
           room = room-here (omega arith);
         }
 
-    -- and then it is;
-    pub cell-added : c < cellsOf t → (coefficient x c ≡ pos 0 → ⊥) → (y′ : List ℤ) → y′ ≡ integers (length y) (added t c (coefficient x c) y (used p)) → y′ ≡ integers (cellsOf t) (reached t p (coefficient x) (c + 1))
+    -- and at all of them it is;
+    cell-added : c < cellsOf t → (coefficient x c ≡ pos 0 → ⊥) → (y′ : List ℤ) → y′ ≡ integers (length y) (added t c (coefficient x c) y (used p)) → y′ ≡ integers (cellsOf t) (reached t p (coefficient x) (c + 1))
     unfolding added
     cell-added l h y′ e =
         is-integers (cellsOf t) (reached t p (coefficient x) (c + 1)) y′
@@ -87,14 +87,12 @@ module _ (t : List ℕ) (x : List ℤ) (p : ℕ) (y₀ : List ℤ) (a : Addable 
         ∙ sym (reached-cell t p (coefficient x) c u (each-placed t x p (a .placed) c l h)))
 
     -- the same two, as the registers of the loop have them: m places, and the coefficient come back from its bits;
-    module _ (m : ℕ) (places : m ≡ used p) (fits : SFits w64 (coefficient x c)) (l : c < length x) (h : ofZ w64 (coefficient x c) ≡ 0 → ⊥) where
-      pub cell-fits-back : Adding t c m (back (coefficient x c)) y
-      cell-fits-back =
-          adding-back fits
-          (subst (λ (n : ℕ). Adding t c n (coefficient x c) y) (sym places) (cell-fits (omega (arith, a .long)) (no-zero (coefficient x c) h)))
+    module _ (m : ℕ) (fits : SFits w64 (coefficient x c)) (l : c < length x) (h : ofZ w64 (coefficient x c) ≡ 0 → ⊥) where
+      pub cell-fits-back : m ≤ used p → Adding t c m (back (coefficient x c)) y
+      cell-fits-back few = adding-back fits (cell-fits m few (omega (arith, a .long)) (no-zero (coefficient x c) h))
 
-      pub cell-added-back : (y′ : List ℤ) → y′ ≡ integers (length y) (added t c (back (coefficient x c)) y m) → y′ ≡ integers (cellsOf t) (reached t p (coefficient x) (c + 1))
-      cell-added-back y′ e =
+      pub cell-added-back : m ≡ used p → (y′ : List ℤ) → y′ ≡ integers (length y) (added t c (back (coefficient x c)) y m) → y′ ≡ integers (cellsOf t) (reached t p (coefficient x) (c + 1))
+      cell-added-back places y′ e =
           cell-added (omega (arith, a .long)) (no-zero (coefficient x c) h) y′
           (e
           ∙ ap (λ (z : ℤ). integers (length y) (added t c z y m)) (back-is (coefficient x c) fits)

@@ -8,17 +8,17 @@ use native.Mathlib.Numerals.{add-one}
 use borrow.Author.Tests.{eq-eqb, ne-eqb}
 use lib.IntN.{ℤ}
 use Rattle.table.specs.Table.{dim, live}
-use Rattle.table.specs.Audit.{auditGrounds}
-use Rattle.table.specs.Calls.{verdict, onVerdict}
-use Rattle.table.specs.declared.Refusal.{Refusal}
-use Rattle.table.specs.declared.Refusal.the-variants.{NotLive, DimensionsDiffer}
-use Rattle.table.specs.declared.Verdict.{Verdict}
-use Rattle.table.specs.declared.Verdict.the-variants.{Accepted, Refused}
-use Rattle.audit.proofs.Grounds.{refused-first, accepted-first}
+use Rattle.audit.specs.Audit.{auditGrounds}
+use Rattle.calls.specs.Calls.{verdict, onVerdict}
+use Rattle.calls.specs.declared.Refusal.{Refusal}
+use Rattle.calls.specs.declared.Refusal.the-variants.{NotLive, DimensionsDiffer}
+use Rattle.calls.specs.declared.Verdict.{Verdict}
+use Rattle.calls.specs.declared.Verdict.the-variants.{Accepted, Refused}
+use Rattle.calls.proofs.Grounds.{refused-first, accepted-first}
 use Rattle.reading.specs.declared.Sum.{Sum}
 use Rattle.reading.specs.declared.Sum.the-variants.{Is, NoSum}
-use Rattle.reading.specs.Incidence.{incidenceOf, incidenceAnswer}
-use Rattle.reading.specs.Steps.{cellGrounds, cellsAnswer}
+use Rattle.reading.specs.Incidence.{incidenceOf, cellGrounds, incidenceAnswer}
+use Rattle.reading.specs.Steps.{cellsAnswer}
 
 module _ (t : List ℕ) (s u : ℕ) where
   pub first-dead : live t s ≡ false → NoSum NotLive ≡ cellsAnswer t s u

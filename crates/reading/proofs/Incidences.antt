@@ -17,7 +17,7 @@ use Rattle.counting.specs.Counting.{pick}
 use Rattle.table.specs.Kind.{faces, used}
 use Rattle.table.specs.Table.{dim, face}
 use Rattle.counting.proofs.Cases.{same-or-not}
-use Rattle.audit.proofs.Places.{used-fits}
+use Rattle.table.proofs.Places.{used-fits}
 use Rattle.reading.specs.Sums.{sumTo, sign}
 use Rattle.reading.specs.Incidence.{incidenceOf}
 use Rattle.reading.proofs.Integers.{last-two}

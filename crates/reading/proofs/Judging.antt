@@ -4,69 +4,53 @@ use mathlib.Core.Path.{_≡_, sym, ap, _∙_}
 use mathlib.Core.Bool.{true, false, _&&_}
 use mathlib.Core.List.{List, [], _∷_}
 use Prim.Native.Nat.{ℕ, _≤_, _<_}
-use borrow.Author.Tests.{eqb-true, not-false, lt-ltb, le-ltb}
+use borrow.Author.Tests.{not-false, lt-ltb, le-ltb}
 use lib.ListN.{length}
 use lib.IntN.{ℤ, pos}
-use lib.Dec.{eqb}
-use Rattle.counting.proofs.Cases.{and-left, and-right}
 use Rattle.table.specs.Kind.{top}
-use Rattle.table.specs.Table.{cellsOf, Valid}
-use Rattle.table.specs.Audit.{sized, sound, onValidity, auditGrounds}
-use Rattle.table.specs.Calls.{verdict, Ends}
-use Rattle.table.specs.declared.Refusal.{Refusal}
-use Rattle.table.specs.declared.Refusal.the-variants.{Length, NoSuchPlace, TooLarge, Misplaced}
-use Rattle.table.specs.declared.Verdict.{Verdict}
-use Rattle.table.specs.declared.Verdict.the-variants.{Accepted, Refused}
+use Rattle.table.specs.Table.{cellsOf, Valid, sized}
+use Rattle.audit.specs.Audit.{sound, onValidity, auditGrounds}
+use Rattle.calls.specs.Calls.{verdict, Ends}
+use Rattle.calls.specs.declared.Refusal.{Refusal}
+use Rattle.calls.specs.declared.Refusal.the-variants.{Length, NoSuchPlace, TooLarge, Misplaced}
+use Rattle.calls.specs.declared.Verdict.{Verdict}
+use Rattle.calls.specs.declared.Verdict.the-variants.{Accepted, Refused}
 use Rattle.audit.proofs.Valid.{sound-is-valid}
-use Rattle.audit.proofs.Grounds.{accepted-none-applies, refused-first, accepted-first}
+use Rattle.calls.proofs.Grounds.{accepted-none-applies, refused-first, accepted-first}
 use Rattle.reading.specs.Sums.{integers}
-use Rattle.reading.specs.Boundary.{boundaryOf, boundaryGrounds, boundaryVerdict, boundaryLeaves, coefficient}
-use Rattle.reading.specs.Steps.{lengthsFit, allSmall, allPlaced, chainGrounds, chainVerdict, Addable}
+use Rattle.reading.specs.Boundary.{boundaryOf, coefficient, lengthsFit, allSmall, allPlaced, chainGrounds, boundaryGrounds, boundaryVerdict, boundaryLeaves}
+use Rattle.reading.specs.Steps.{chainVerdict, Addable}
+use Rattle.reading.proofs.Lengths.{Fitting, lengths-say}
 
--- the three grounds of the chain
+-- the three grounds of a chain with a coefficient for each cell
 module _ (t : List ℕ) (x : List ℤ) (p : ℕ) where
   pub dimension-above : top < p → Refused NoSuchPlace ≡ chainVerdict t x p
   unfolding chainVerdict
   dimension-above h = rw (lt-ltb top p h)
 
-  pub too-large : p ≤ top → allSmall x ≡ false → Refused TooLarge ≡ chainVerdict t x p
-  unfolding chainVerdict
-  too-large h e = rw (le-ltb top p h, e)
+  module _ (long : length x ≡ cellsOf t) (h : p ≤ top) where
+    pub too-large : allSmall (length x) x ≡ false → Refused TooLarge ≡ chainVerdict t x p
+    unfolding chainVerdict
+    too-large e = rw (le-ltb top p h, rw long at e)
 
-  pub misplaced : p ≤ top → allSmall x ≡ true → allPlaced t x p ≡ false → Refused Misplaced ≡ chainVerdict t x p
-  unfolding chainVerdict
-  misplaced h e f = rw (le-ltb top p h, e, f)
+    pub misplaced : allSmall (length x) x ≡ true → allPlaced t x p ≡ false → Refused Misplaced ≡ chainVerdict t x p
+    unfolding chainVerdict
+    misplaced e f = rw (le-ltb top p h, rw long at e, f)
 
-  pub chain-passes : p ≤ top → allSmall x ≡ true → allPlaced t x p ≡ true → Accepted ≡ chainVerdict t x p
-  unfolding chainVerdict
-  chain-passes h e f = rw (le-ltb top p h, e, f)
-
--- what the three lengths say
-pub record Fitting (t : List ℕ) (x y : List ℤ) : Type 0 where
-  pub table : sized t ≡ true
-  pub chain : length x ≡ cellsOf t
-  pub target : length y ≡ cellsOf t
-
-pub lengths-say : (t : List ℕ) (x y : List ℤ) → lengthsFit t x y ≡ true → Fitting t x y
-unfolding lengthsFit
-lengths-say t x y e =
-    let both = and-right (sized t) (eqb (length x) (cellsOf t) && eqb (length y) (cellsOf t)) e in
-    record {
-      table = and-left (sized t) (eqb (length x) (cellsOf t) && eqb (length y) (cellsOf t)) e;
-      chain = eqb-true (length x) (cellsOf t) (and-left (eqb (length x) (cellsOf t)) (eqb (length y) (cellsOf t)) both);
-      target = eqb-true (length y) (cellsOf t) (and-right (eqb (length x) (cellsOf t)) (eqb (length y) (cellsOf t)) both);
-    }
+    pub chain-passes : allSmall (length x) x ≡ true → allPlaced t x p ≡ true → Accepted ≡ chainVerdict t x p
+    unfolding chainVerdict
+    chain-passes e f = rw (le-ltb top p h, rw long at e, f)
 
 module _ (t : List ℕ) (x : List ℤ) (p : ℕ) (y : List ℤ) where
-  pub lengths-refused : lengthsFit t x y ≡ false → Refused Length ≡ boundaryVerdict t x p y
-  unfolding boundaryVerdict lengthsFit
+  pub lengths-refused : (sized t && lengthsFit t x y) ≡ false → Refused Length ≡ boundaryVerdict t x p y
+  unfolding boundaryVerdict
   lengths-refused e = rw e
 
   -- the lengths fit, and a is what the audit answers
-  module _ (fit : lengthsFit t x y ≡ true) (a : Verdict) (says : a ≡ verdict (auditGrounds t)) where
+  module _ (fit : (sized t && lengthsFit t x y) ≡ true) (a : Verdict) (says : a ≡ verdict (auditGrounds t)) where
     after-lengths : boundaryVerdict t x p y ≡ verdict (onValidity t ∷ chainGrounds t x p)
-    unfolding boundaryVerdict lengthsFit allSmall allPlaced
-    after-lengths = rw (fit, lengths-say t x y fit .chain)
+    unfolding boundaryVerdict
+    after-lengths = rw fit
 
     audit-is : a ≡ verdict (onValidity t ∷ [])
     audit-is = says ∙ rw (lengths-say t x y fit .table)
@@ -82,18 +66,18 @@ module _ (t : List ℕ) (x : List ℤ) (p : ℕ) (y : List ℤ) where
 pub record Tested (t : List ℕ) (x : List ℤ) (p : ℕ) (y : List ℤ) : Type 0 where
   pub fitting : Fitting t x y
   pub valid : Valid t
-  pub small : allSmall x ≡ true
+  pub small : allSmall (cellsOf t) x ≡ true
   pub placed : allPlaced t x p ≡ true
 
 pub accepted-says : (t : List ℕ) (x : List ℤ) (p : ℕ) (y : List ℤ) → boundaryVerdict t x p y ≡ Accepted → Tested t x p y
-unfolding boundaryVerdict lengthsFit allSmall allPlaced
+unfolding boundaryVerdict
 accepted-says t x p y e =
     let n = accepted-none-applies (boundaryGrounds t x p y) e in
     let k = lengths-say t x y (not-false _ (n .0)) in
     record {
       fitting = k;
       valid = sound-is-valid t (k .table) (not-false (sound t) (n .1 .0));
-      small = rw (k .chain) (not-false _ (n .1 .1 .1 .0));
+      small = not-false _ (n .1 .1 .1 .0);
       placed = not-false _ (n .1 .1 .1 .1 .0);
     }
 

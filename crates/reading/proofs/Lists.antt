@@ -1,7 +1,7 @@
 -- Laws of the list of n integers, and of the test over all numbers below n as a loop takes it.
 -- What carries them: recursion on n. Assumes nothing.
 use mathlib.Core.Path.{_≡_, refl, sym, ap, _∙_}
-use mathlib.Core.Bool.{Bool, true, false, false≢true}
+use mathlib.Core.Bool.{Bool, true, false, _&&_, false≢true, and-true, and-false}
 use mathlib.Core.List.{List}
 use Prim.Native.Nat.{ℕ, zero, suc, _+_, _<_}
 use native.Mathlib.Nat.{not-suc-le-zero, le-of-suc-le-suc}
@@ -10,9 +10,9 @@ use native.Mathlib.Omega.{arith}
 use lib.ListN.{length, getD}
 use lib.Seq.{ext-getD}
 use lib.IntN.{ℤ, pos}
-use Rattle.counting.proofs.Cases.{and-both, not-true-false}
-use Rattle.table.specs.Audit.{all}
-use Rattle.audit.proofs.Scans.{all-true}
+use Rattle.counting.proofs.Cases.{not-true-false}
+use Rattle.counting.specs.Counting.{all}
+use Rattle.counting.proofs.Tests.{all-true}
 use Rattle.reading.specs.Sums.{integers}
 
 pub integers-length : (n : ℕ) (f : ℕ → ℤ) → length (integers n f) ≡ n
@@ -36,9 +36,16 @@ pub all-zero : (f : ℕ → Bool) → all 0 f ≡ true
 unfolding all
 all-zero f = refl
 
-pub all-more : (f : ℕ → Bool) (n : ℕ) → all n f ≡ true → f n ≡ true → all (n + 1) f ≡ true
+all-next : (f : ℕ → Bool) (n : ℕ) (b : Bool) → f n ≡ b → all (n + 1) f ≡ (all n f && b)
 unfolding all
-all-more f n e h = rw add-one (and-both (all n f) (f n) e h)
+all-next f n b e = rw (add-one n, e)
+
+-- one number more: where it passes the test stays as it is, and where it fails the test fails
+pub all-keeps : (f : ℕ → Bool) (n : ℕ) → f n ≡ true → all (n + 1) f ≡ all n f
+all-keeps f n e = all-next f n true e ∙ and-true (all n f)
+
+pub all-breaks : (f : ℕ → Bool) (n : ℕ) → f n ≡ false → all (n + 1) f ≡ false
+all-breaks f n e = all-next f n false e ∙ and-false (all n f)
 
 pub all-fails : (f : ℕ → Bool) (k n : ℕ) → k < n → f k ≡ false → all n f ≡ false
 all-fails f k n h e = not-true-false (all n f) (λ a. false≢true (sym e ∙ all-true f n a k h))

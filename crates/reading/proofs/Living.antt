@@ -10,7 +10,7 @@ use native.Mathlib.Omega.{arith}
 use Rattle.table.specs.Kind.{top, used}
 use Rattle.table.specs.Table.{dim, face, Live, Valid, isCell}
 use Rattle.table.proofs.Dimensions.{cell-live, cell-dim, cell-says}
-use Rattle.audit.proofs.Places.{used-is}
+use Rattle.table.proofs.Places.{used-is}
 
 -- a live p-cell, in words of the table
 pub record CellOf (t : List ℕ) (p c : ℕ) : Type 0 where

@@ -11,16 +11,15 @@ use lib.IntN.{ℤ, pos, negsuc, negℤ, natAbs, _+ℤ_, _*ℤ_, +ℤ-idr, zero-*
 use lib.Dec.{eqb}
 use Rattle.counting.specs.Counting.{pick}
 use Rattle.table.specs.Kind.{capacity, faces, used}
-use Rattle.table.specs.Table.{cellsOf, dim, face, Valid, isCell}
-use Rattle.audit.proofs.Places.{used-fits}
+use Rattle.table.specs.Table.{cellsOf, dim, face, isCell}
+use Rattle.table.proofs.Places.{used-fits}
 use Rattle.reading.specs.Sums.{sumTo, sign}
-use Rattle.reading.specs.Boundary.{boundaryOf, cellBoundary, publishedBoundary, one, limit}
-use Rattle.reading.specs.Steps.{turned, placeAdds, reached}
+use Rattle.reading.specs.Boundary.{cellBoundary, publishedBoundary, one, limit, turned, placeAdds, reached}
 use Rattle.reading.proofs.Integers.{one-times, minus-one-times}
 use Rattle.reading.proofs.SumLaws.{sum-none, sum-next, sum-same, times-sum}
 use Rattle.reading.proofs.Sizes.{size-add, size-sum}
 use Rattle.reading.proofs.Living.{cell-true}
-use Rattle.reading.proofs.BoundaryLaws.{pick-times, pick-zero, sign-at, boundary-is-published}
+use Rattle.reading.proofs.BoundaryLaws.{pick-times, pick-zero, sign-at}
 use Rattle.reading.proofs.Adding.{size-places}
 
 turned-by : (b : Bool) (z : ℤ) → z *ℤ pick b (pos 1) (negsuc 0) ≡ pick b z (negℤ z)
@@ -96,9 +95,3 @@ module _ (t : List ℕ) (p : ℕ) (x : ℕ → ℤ) where
 pub no-sum-passes : (t : List ℕ) (p : ℕ) (x : ℕ → ℤ) → cellsOf t ≤ capacity → ((c : ℕ) → c < cellsOf t → natAbs (x c) ≤ limit) → (c m u : ℕ) → c < cellsOf t → m ≤ faces → natAbs (reached t p x c u +ℤ sumTo m (placeAdds t c (x c) u)) ≤ 2 ^ 52
 no-sum-passes t p x room small c m u l h =
     omega (arith, size-add (reached t p x c u) (sumTo m (placeAdds t c (x c) u)), size-reached t p x small c u (omega arith), size-of-places t p x small c u m l h)
-
--- and so is every number of the result
-pub no-result-passes : (t : List ℕ) → Valid t → (p : ℕ) (x : ℕ → ℤ) → ((c : ℕ) → c < cellsOf t → natAbs (x c) ≤ limit) → (u : ℕ) → natAbs (boundaryOf t p x u) ≤ 2 ^ 52
-no-result-passes t v p x small u =
-    subst (λ (w : ℤ). natAbs w ≤ 2 ^ 52) (reached-all t p x u ∙ sym (boundary-is-published t v p x u))
-    (omega (arith, size-reached t p x small (cellsOf t) u (omega arith), v .sized .room))

@@ -14,8 +14,8 @@ use lib.Dec.{leb}
 use mir.Syntax.{w64}
 use mir.Val.{SFits, toZ, ofZ}
 use mir.Facts.{toZ-ofZ}
-use Rattle.reading.specs.Boundary.{limit}
-use Rattle.reading.specs.Steps.{turned, put}
+use Rattle.reading.specs.Boundary.{limit, turned}
+use Rattle.reading.specs.Steps.{put}
 
 -- z as it comes back from a register
 abbrev pub back : ℤ → ℤ

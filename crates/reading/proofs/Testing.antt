@@ -1,4 +1,4 @@
--- The tests of a chain, as their loops go: one coefficient after the other, and stopped at the first that fails.
+-- The tests of a chain, as their loops go: one coefficient after the other; that of the sizes stops at the first that fails.
 -- What carries it: a test over all numbers fails where one fails. Assumes nothing.
 use mathlib.Core.Path.{_≡_, sym, ap, subst, _∙_}
 use mathlib.Core.Bool.{Bool, true, false, _||_}
@@ -14,9 +14,8 @@ use mir.Val.{SFits}
 use Rattle.counting.proofs.Cases.{not-true-false}
 use Rattle.table.specs.Kind.{top}
 use Rattle.table.specs.Table.{cellsOf, dim, isCell}
-use Rattle.table.specs.Audit.{all}
-use Rattle.reading.specs.Boundary.{limit, coefficient}
-use Rattle.reading.specs.Steps.{allSmall, allPlaced}
+use Rattle.counting.specs.Counting.{all}
+use Rattle.reading.specs.Boundary.{limit, coefficient, allSmall, allPlaced}
 use Rattle.reading.proofs.Lists.{all-fails}
 use Rattle.reading.proofs.Living.{cell-true, cell-is}
 use Rattle.reading.proofs.Registers.{back, back-is}
@@ -32,11 +31,11 @@ pub small-answer : (z : ℤ) (r b : Bool) → SFits w64 z → r ≡ leb (natAbs 
 small-answer z r b f e h = ap (λ (y : ℤ). leb (natAbs y) limit) (sym (back-is z f)) ∙ sym e ∙ h
 
 module _ (x : List ℤ) (c : ℕ) where
-  pub small-stops : c < length x → smallAt x c ≡ false → false ≡ allSmall x
+  pub small-stops : c < length x → smallAt x c ≡ false → false ≡ allSmall (length x) x
   unfolding allSmall
   small-stops l e = sym (all-fails (smallAt x) c (length x) l e)
 
-  pub small-ends : c ≤ length x → length x ≤ c → all c (smallAt x) ≡ true → true ≡ allSmall x
+  pub small-ends : c ≤ length x → length x ≤ c → all c (smallAt x) ≡ true → true ≡ allSmall (length x) x
   unfolding allSmall
   small-ends h k e = sym (subst (λ (n : ℕ). all n (smallAt x) ≡ true) (let q : c ≡ length x = omega arith in q) e)
 
@@ -60,11 +59,7 @@ module _ (t : List ℕ) (x : List ℤ) (p c : ℕ) where
   other-misplaced h k =
       placed-by h false (not-true-false (isCell t p c) (λ e. k (cell-true t p c e .level)))
 
-  pub placed-stops : c < length x → length x ≡ cellsOf t → placedAt t x p c ≡ false → false ≡ allPlaced t x p
+  pub placed-ends : (b : Bool) → c ≤ length x → length x ≤ c → length x ≡ cellsOf t → b ≡ all c (placedAt t x p) → b ≡ allPlaced t x p
   unfolding allPlaced
-  placed-stops l e f = sym (all-fails (placedAt t x p) c (cellsOf t) (omega (arith, e)) f)
-
-  pub placed-ends : c ≤ length x → length x ≤ c → length x ≡ cellsOf t → all c (placedAt t x p) ≡ true → true ≡ allPlaced t x p
-  unfolding allPlaced
-  placed-ends h k e f =
-      let q : c ≡ cellsOf t = omega (arith, e) in sym (subst (λ (n : ℕ). all n (placedAt t x p) ≡ true) q f)
+  placed-ends b h k e f =
+      let q : c ≡ cellsOf t = omega (arith, e) in f ∙ ap (λ (n : ℕ). all n (placedAt t x p)) q

@@ -10,8 +10,8 @@ use native.Mathlib.Omega.{arith}
 use lib.ListN.{length, getD, List·getD-eq-default}
 use lib.IntN.{ℤ, pos}
 use Rattle.table.specs.Table.{cellsOf, isCell}
-use Rattle.table.specs.Calls.{Ends}
-use Rattle.table.specs.declared.Verdict.the-variants.{Accepted}
+use Rattle.calls.specs.Calls.{Ends}
+use Rattle.calls.specs.declared.Verdict.the-variants.{Accepted}
 use Rattle.counting.proofs.Cases.{below-or-not}
 use Rattle.table.proofs.Records.{outside-dead}
 use Rattle.reading.specs.Sums.{integers}

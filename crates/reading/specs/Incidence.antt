@@ -8,10 +8,9 @@ use lib.Dec.{eqb}
 use Rattle.counting.specs.Counting.{pick}
 use Rattle.table.specs.Kind.{used}
 use Rattle.table.specs.Table.{dim, face, live}
-use Rattle.table.specs.Audit.{onLength, onValidity}
-use Rattle.table.specs.Calls.{Ground, verdict, onVerdict}
-use Rattle.table.specs.declared.Refusal.the-variants.{NotLive, DimensionsDiffer}
-use Rattle.table.specs.declared.Verdict.{Verdict}
+use Rattle.audit.specs.Audit.{grounds}
+use Rattle.calls.specs.Calls.{Ground, verdict, onVerdict}
+use Rattle.calls.specs.declared.Refusal.the-variants.{NotLive, DimensionsDiffer}
 use Rattle.reading.specs.declared.Sum.{Sum}
 use Rattle.reading.specs.declared.Sum.the-variants.{Is, NoSum}
 use Rattle.reading.specs.Sums.{sumTo, sign}
@@ -19,13 +18,15 @@ use Rattle.reading.specs.Sums.{sumTo, sign}
 unfoldable pub incidenceOf : List ℕ → ℕ → ℕ → ℤ
 incidenceOf t s u = sumTo (used (dim t s)) (λ j. pick (eqb (face t s j) u) (sign j) (pos 0))
 
-abbrev pub incidenceGrounds : List ℕ → ℕ → ℕ → List Ground
-incidenceGrounds t s u =
-    onLength t
-    ∷ onValidity t
-    ∷ record { refusal = NotLive; applies = not (live t s && live t u) }
+-- the grounds that the two cells give, after those of the table
+abbrev pub cellGrounds : List ℕ → ℕ → ℕ → List Ground
+cellGrounds t s u =
+    record { refusal = NotLive; applies = not (live t s && live t u) }
     ∷ record { refusal = DimensionsDiffer; applies = not (eqb (dim t s) (suc (dim t u))) }
     ∷ []
+
+abbrev pub incidenceGrounds : List ℕ → ℕ → ℕ → List Ground
+incidenceGrounds t s u = grounds t (cellGrounds t s u)
 
 abbrev pub incidenceAnswer : List ℕ → ℕ → ℕ → Sum
 incidenceAnswer t s u = onVerdict (verdict (incidenceGrounds t s u)) (Is (incidenceOf t s u)) NoSum

@@ -1,5 +1,6 @@
 // Reading with signs: the incidence of two cells, and the boundary of a chain with integer coefficients.
 ghost use mathlib.Core.Path.{_≡_};
+ghost use mathlib.Core.Bool.{_&&_};
 ghost use Prim.Native.Nat.{_≤_, _<_};
 ghost use lib.ListN.{length, getD};
 ghost use lib.IntN.{pos, _+ℤ_, natAbs};
@@ -7,15 +8,15 @@ ghost use lib.Dec.{leb};
 ghost use mir.Syntax.{w64};
 ghost use mir.Val.{SFits};
 ghost use Rattle.table.specs.Kind.{top};
-ghost use Rattle.table.specs.Table.{cellsOf};
-ghost use Rattle.table.specs.Calls.{Ends};
+ghost use Rattle.table.specs.Table.{cellsOf, sized};
+ghost use Rattle.calls.specs.Calls.{Ends};
 ghost use Rattle.reading.specs.Sums.{integers};
 ghost use Rattle.reading.specs.Incidence.{incidenceOf, incidenceAnswer};
-ghost use Rattle.reading.specs.Boundary.{boundaryOf, boundaryVerdict, boundaryLeaves, limit, coefficient};
-ghost use Rattle.reading.specs.Steps.{turned, put as putInto, lengthsFit, allSmall, allPlaced, added, Adding, Addable, chainVerdict, cellsAnswer};
-use table::Refusal;
+ghost use Rattle.reading.specs.Boundary.{boundaryOf, boundaryVerdict, boundaryLeaves, limit, coefficient, lengthsFit, allSmall, allPlaced, turned};
+ghost use Rattle.reading.specs.Steps.{put as putInto, added, Adding, Addable, chainVerdict, cellsAnswer};
+use calls::Refusal;
+use calls::Verdict;
 use table::Table;
-use table::Verdict;
 
 // A signed incidence, or why there is none.
 pub enum Sum {
@@ -43,7 +44,7 @@ fn small(x: i64) -> bool
 
 // Whether all coefficients do.
 fn coefficients_small(chain: &[i64]) -> bool
-    ensures { λ r. ⌜ r ≡ allSmall (now (chain .entry)) ⌝ }
+    ensures { λ r. ⌜ r ≡ allSmall (length (now (chain .entry))) (now (chain .entry)) ⌝ }
 {
     for c in 0..chain.len() {
         if !small(chain[c]) {
@@ -53,30 +54,32 @@ fn coefficients_small(chain: &[i64]) -> bool
     true
 }
 
-// Whether every coefficient that is not 0 stands at a live p-cell.
+// Whether every coefficient that is not 0 stands at a live p-cell. The answer is gathered, and no misplaced one ends the pass: so the
+// compiler needs no branch for each coefficient.
 fn coefficients_placed(t: &[u16], chain: &[i64], p: u16) -> bool
     requires { ⌜ (length (now chain) ≡ cellsOf (now t)) × (p ≤ top) ⌝ }
     ensures { λ r. ⌜ r ≡ allPlaced (now (t .entry)) (now (chain .entry)) p ⌝ }
 {
+    let mut placed = true;
     for c in 0..chain.len() {
         let x = chain[c];
         if x != 0 {
             if Table::dim(t, c) != p {
-                return false;
+                placed = false;
             }
         }
     }
-    true
+    placed
 }
 
-// Whether the three buffers have the lengths of one table.
+// Whether the words are a table's, and the chain and the result have a number for each of its cells.
 fn lengths_fit(t: &[u16], chain: &[i64], result: &[i64]) -> bool
-    ensures { λ r. ⌜ r ≡ lengthsFit (now (t .entry)) (now (chain .entry)) (now (result .entry)) ⌝ }
+    ensures { λ r. ⌜ r ≡ (sized (now (t .entry)) && lengthsFit (now (t .entry)) (now (chain .entry)) (now (result .entry))) ⌝ }
 {
-    let n = Table::of(t).cells;
-    if n == 0 {
+    if !Table::fits(t) {
         return false;
     }
+    let n = Table::room(t);
     if chain.len() != n {
         return false;
     }
@@ -87,10 +90,8 @@ fn lengths_fit(t: &[u16], chain: &[i64], result: &[i64]) -> bool
 fn clear(result: &mut [i64])
     ensures { λ _. ⌜ now (result .exit) ≡ integers (length (now (result .entry))) (λ u. pos 0) ⌝ }
 {
-    let mut k = 0;
-    while k < result.len() {
+    for k in 0..result.len() {
         result[k] = 0;
-        k += 1;
     }
 }
 
@@ -133,7 +134,7 @@ fn add_cells(t: &[u16], chain: &[i64], p: u16, result: &mut [i64])
 }
 
 // The refusal that the chain and its dimension give, in the order 12, 10, 11, or that there is none.
-fn chain_judged(t: &[u16], chain: &[i64], p: u16) -> Verdict
+fn judge_chain(t: &[u16], chain: &[i64], p: u16) -> Verdict
     requires { ⌜ length (now chain) ≡ cellsOf (now t) ⌝ }
     ensures { λ r. ⌜ r ≡ chainVerdict (now (t .entry)) (now (chain .entry)) p ⌝ }
 {
@@ -152,7 +153,7 @@ fn chain_judged(t: &[u16], chain: &[i64], p: u16) -> Verdict
 }
 
 // The refusal of a boundary, in its order, or that there is none. Nothing is written.
-fn judged(t: &[u16], chain: &[i64], p: u16, result: &[i64]) -> Verdict
+fn judge(t: &[u16], chain: &[i64], p: u16, result: &[i64]) -> Verdict
     ensures { λ r. ⌜ r ≡ boundaryVerdict (now (t .entry)) (now (chain .entry)) p (now (result .entry)) ⌝ }
 {
     if !lengths_fit(t, chain, result) {
@@ -161,7 +162,7 @@ fn judged(t: &[u16], chain: &[i64], p: u16, result: &[i64]) -> Verdict
     let found = audit::audit(t);
     match found {
         Verdict::Refused(r) => Verdict::Refused(r),
-        Verdict::Accepted => chain_judged(t, chain, p),
+        Verdict::Accepted => judge_chain(t, chain, p),
     }
 }
 
@@ -169,7 +170,7 @@ fn judged(t: &[u16], chain: &[i64], p: u16, result: &[i64]) -> Verdict
 pub fn boundary(t: &[u16], chain: &[i64], p: u16, result: &mut [i64]) -> Verdict
     ensures { λ r. ⌜ Ends (boundaryVerdict (now (t .entry)) (now (chain .entry)) p (now (result .entry))) (boundaryLeaves (now (t .entry)) (now (chain .entry)) p (now (result .entry))) r (now (result .exit)) ⌝ }
 {
-    let found = judged(t, chain, p, result);
+    let found = judge(t, chain, p, result);
     match found {
         Verdict::Refused(r) => Verdict::Refused(r),
         Verdict::Accepted => {

@@ -4,12 +4,11 @@ use mathlib.Core.Path.{_≡_, sym, ap₂, _∙_}
 use mathlib.Core.List.{List}
 use Prim.Native.Nat.{ℕ}
 use lib.ListN.{length}
-use Rattle.homology.specs.Cells.{_⊻_}
+use Rattle.homology.specs.Cells.{Cells, _⊻_}
 use Rattle.homology.specs.Evidence.{IsLargest}
 use Rattle.homology.proofs.Tops.{largest-cong}
 use Rattle.bitset.specs.Bits.{member, sumOf, IsGreatest}
 use Rattle.bitset.proofs.Marks.{member-true, member-false}
-use Rattle.complex.specs.Cells.{cells}
 use Rattle.rows.proofs.Members.{member-inside, member-sum}
 use Rattle.rows.proofs.Sets.{top-is-largest}
 use Rattle.rows.proofs.Boundaries.{boundary-of-sum}
@@ -23,15 +22,15 @@ largest-is-greatest ws m h = record {
   above = λ s l. member-false ws s (h .above s l);
 }
 
-pub largest-of : {t x y : List ℕ} {m : ℕ} → Bounds t x y → IsGreatest x m → LargestOf t y m
-largest-of {t} {x} {y} {m} is h = largest-cong (is .same) (top-is-largest x m h)
+pub largest-of : {K : Cells} {x y : List ℕ} {m : ℕ} → Bounds K x y → IsGreatest x m → LargestOf K y m
+largest-of {K} {x} {y} {m} is h = largest-cong (is .same) (top-is-largest x m h)
 
-pub of-largest : {t x y : List ℕ} {m : ℕ} → Bounds t x y → LargestOf t y m → IsGreatest x m
-of-largest {t} {x} {y} {m} is h = largest-is-greatest x m (largest-cong (λ s. sym (is .same s)) h)
+pub of-largest : {K : Cells} {x y : List ℕ} {m : ℕ} → Bounds K x y → LargestOf K y m → IsGreatest x m
+of-largest {K} {x} {y} {m} is h = largest-is-greatest x m (largest-cong (λ s. sym (is .same s)) h)
 
 -- two rows added, and their boundaries
-pub bounds-add : (t x y x′ y′ : List ℕ) → length x ≡ length x′ → length y ≡ length y′ → Bounds t x y → Bounds t x′ y′ → Bounds t (sumOf x x′) (sumOf y y′)
-bounds-add t x y x′ y′ k l of-y of-y′ = record {
+pub bounds-add : (K : Cells) (x y x′ y′ : List ℕ) → length x ≡ length x′ → length y ≡ length y′ → Bounds K x y → Bounds K x′ y′ → Bounds K (sumOf x x′) (sumOf y y′)
+bounds-add K x y x′ y′ k l of-y of-y′ = record {
   same = λ s.
-      member-sum x x′ k s ∙ ap₂ _⊻_ (of-y .same s) (of-y′ .same s) ∙ sym (boundary-of-sum (cells t) y y′ l s);
+      member-sum x x′ k s ∙ ap₂ _⊻_ (of-y .same s) (of-y′ .same s) ∙ sym (boundary-of-sum K y y′ l s);
 }

@@ -1,24 +1,24 @@
 -- The additions by dimension: none at first, one row's more a turn, and a bound that a count of 64 bits holds.
 -- What carries it: the sum over the cells, one cell more. Assumes nothing.
-use mathlib.Core.Path.{_≡_, refl, sym, ap, ap₂, _∙_}
+use mathlib.Core.Path.{_≡_, refl, sym, ap, ap₂, _∙_, fun-ext}
 use mathlib.Core.Logic.{by-cases}
 use mathlib.Core.Bool.{Bool, true, false, _&&_}
 use mathlib.Core.List.{List}
 use Prim.Native.Nat.{ℕ, zero, suc, _+_, _*_, _≤_, _<_}
-use native.Mathlib.Decide.{ℕ-discrete}
+use native.Mathlib.Decide.{ℕ-discrete, decLt}
 use native.Mathlib.Omega.{arith}
 use borrow.Author.Tests.{eq-eqb, ne-eqb}
 use lib.Dec.{eqb}
-use lib.ListN.{length, getD, set, replicate, length-set}
+use lib.ListN.{length, getD, set, replicate, length-set, List·getD-eq-default}
 use lib.Seq.{ext-getD, getD-set-same, getD-set-other}
+use Rattle.homology.specs.Cells.{Cells}
 use Rattle.homology.proofs.Marks.{by-mark}
-use Rattle.counting.specs.Counting.{pick}
-use Rattle.table.specs.Kind.{capacity, top}
-use Rattle.table.specs.Table.{dim, live}
-use Rattle.table.specs.Words.{listed}
-use Rattle.table.proofs.Words.{length-listed, getD-listed}
+use Rattle.counting.specs.Counting.{pick, listed}
+use Rattle.table.specs.Kind.{capacity, dimensions}
+use Rattle.counting.proofs.Listed.{length-listed, getD-listed}
 use Rattle.reducer.specs.Rule.{additionsIn}
 use Rattle.reducer.specs.Reduce.{counts}
+use Rattle.reducer.proofs.OneOutcome.{counted-alike}
 
 -- the additions of cell c are n, those of the others as before
 abbrev pub with-row : (ℕ → ℕ) → ℕ → ℕ → ℕ → ℕ
@@ -30,76 +30,71 @@ with-row-here adds c n = ap (λ (x : Bool). pick x n (adds c)) (eq-eqb c c refl)
 pub with-row-there : (adds : ℕ → ℕ) (c n b : ℕ) → (b ≡ c → ⊥) → with-row adds c n b ≡ adds b
 with-row-there adds c n b apart = ap (λ (x : Bool). pick x n (adds b)) (ne-eqb b c apart)
 
--- cells below n alone count
-additions-agree : (t : List ℕ) (f g : ℕ → ℕ) (p n : ℕ) → ((b : ℕ) → b < n → f b ≡ g b) → additionsIn t f p n ≡ additionsIn t g p n
-unfolding additionsIn
-additions-agree t f g p zero same = refl
-additions-agree t f g p (suc n) same =
-    ap₂ (λ (a b : ℕ). a + pick (live t n && eqb (dim t n) p) b 0) (additions-agree t f g p n (λ b l. same b (omega arith))) (same n (omega arith))
-
 -- one cell more
-row-counted : (t : List ℕ) (adds : ℕ → ℕ) (p c n : ℕ) → additionsIn t (with-row adds c n) p (suc c) ≡ additionsIn t adds p c + pick (live t c && eqb (dim t c) p) n 0
+row-counted : (K : Cells) (adds : ℕ → ℕ) (p c n : ℕ) → additionsIn K (with-row adds c n) p (suc c) ≡ additionsIn K adds p c + pick (K .live c && eqb (K .dim c) p) n 0
 unfolding additionsIn
-row-counted t adds p c n =
-    ap₂ (λ (a b : ℕ). a + pick (live t c && eqb (dim t c) p) b 0)
-    (additions-agree t (with-row adds c n) adds p c (λ b l. with-row-there adds c n b (λ e. omega arith)))
+row-counted K adds p c n =
+    ap₂ (λ (a b : ℕ). a + pick (K .live c && eqb (K .dim c) p) b 0)
+    (counted-alike K (with-row adds c n) adds p c (λ b l. with-row-there adds c n b (λ e. omega arith)))
     (with-row-here adds c n)
 
-pub additions-few : (t : List ℕ) (adds : ℕ → ℕ) (p n : ℕ) → ((b : ℕ) → b < n → adds b ≤ capacity) → additionsIn t adds p n ≤ capacity * n
+pub additions-few : (K : Cells) (adds : ℕ → ℕ) (p n : ℕ) → ((b : ℕ) → b < n → adds b ≤ capacity) → additionsIn K adds p n ≤ capacity * n
 unfolding additionsIn
-additions-few t adds p zero few = omega arith
-additions-few t adds p (suc n) few =
-    let before : additionsIn t adds p n ≤ capacity * n = additions-few t adds p n (λ b l. few b (omega arith)) in
+additions-few K adds p zero few = omega arith
+additions-few K adds p (suc n) few =
+    let before : additionsIn K adds p n ≤ capacity * n = additions-few K adds p n (λ b l. few b (omega arith)) in
     let last : adds n ≤ capacity = few n (omega arith) in
-    by-mark (live t n && eqb (dim t n) p) (λ e. rw e (omega arith)) (λ e. rw e (omega arith))
+    by-mark (K .live n && eqb (K .dim n) p) (λ e. rw e (omega arith)) (λ e. rw e (omega arith))
 
-pub count-at : (f : ℕ → ℕ) (p : ℕ) → p ≤ top → getD (counts f) p 0 ≡ f p
-count-at f p h = getD-listed (top + 1) f p (omega arith)
+pub count-at : (f : ℕ → ℕ) (p : ℕ) → p < dimensions → getD (counts f) p 0 ≡ f p
+count-at f p h = getD-listed dimensions f p h
+
+-- no count is larger than m where no number is, and past the last there is none
+pub counts-at-most : (f : ℕ → ℕ) (m : ℕ) → ((p : ℕ) → f p ≤ m) → (p : ℕ) → getD (counts f) p 0 ≤ m
+counts-at-most f m most p = by-cases (decLt p dimensions)
+    (λ h. omega (arith, count-at f p h, most p))
+    (λ past. let none : getD (counts f) p 0 ≡ 0 = List·getD-eq-default (counts f) 0 (omega (arith, length-listed dimensions f)) in omega arith)
 
 -- no additions before the first cell
-pub counts-none : (t : List ℕ) (adds : ℕ → ℕ) → replicate (top + 1) 0 ≡ counts (λ p. additionsIn t adds p 0)
+pub counts-none : (K : Cells) (adds : ℕ → ℕ) → replicate dimensions 0 ≡ counts (λ p. additionsIn K adds p 0)
 unfolding listed additionsIn
-counts-none t adds = refl
-
-same-counts : (f g : ℕ → ℕ) → ((p : ℕ) → f p ≡ g p) → counts f ≡ counts g
-same-counts f g same = ext-getD 0 (counts f) (counts g) (length-listed (top + 1) f ∙ sym (length-listed (top + 1) g))
-    (λ p l. let h : p ≤ top = omega (arith, length-listed (top + 1) f) in count-at f p h ∙ same p ∙ sym (count-at g p h))
+counts-none K adds = refl
 
 -- a free number has no additions
-pub counts-free : (t : List ℕ) (adds : ℕ → ℕ) (c : ℕ) → live t c ≡ false → counts (λ p. additionsIn t adds p c) ≡ counts (λ p. additionsIn t (with-row adds c 0) p (suc c))
-counts-free t adds c free = same-counts (λ p. additionsIn t adds p c) (λ p. additionsIn t (with-row adds c 0) p (suc c))
-    (λ p. sym (row-counted t adds p c 0 ∙ ap (λ (x : Bool). additionsIn t adds p c + pick (x && eqb (dim t c) p) 0 0) free ∙ omega arith))
+pub counts-free : (K : Cells) (adds : ℕ → ℕ) (c : ℕ) → K .live c ≡ false → counts (λ p. additionsIn K adds p c) ≡ counts (λ p. additionsIn K (with-row adds c 0) p (suc c))
+counts-free K adds c free = ap counts (fun-ext (λ p.
+    sym (row-counted K adds p c 0 ∙ ap (λ (x : Bool). additionsIn K adds p c + pick (x && eqb (K .dim c) p) 0 0) free ∙ omega arith)))
 
 -- a live cell's additions go to its dimension
-pub counts-live : (t : List ℕ) (adds : ℕ → ℕ) (c n : ℕ) (l : List ℕ) → live t c ≡ true → dim t c ≤ top → l ≡ counts (λ p. additionsIn t adds p c)
-    → set l (dim t c) (getD l (dim t c) 0 + n) ≡ counts (λ p. additionsIn t (with-row adds c n) p (suc c))
-counts-live t adds c n l living low is = ext-getD 0 (set l d v) (counts new) (long ∙ sym (length-listed (top + 1) new)) (λ p h. at p (omega (arith, long)))
+pub counts-live : (K : Cells) (adds : ℕ → ℕ) (c n : ℕ) (l : List ℕ) → K .live c ≡ true → K .dim c < dimensions → l ≡ counts (λ p. additionsIn K adds p c)
+    → set l (K .dim c) (getD l (K .dim c) 0 + n) ≡ counts (λ p. additionsIn K (with-row adds c n) p (suc c))
+counts-live K adds c n l living low is = ext-getD 0 (set l d v) (counts new) (long ∙ sym (length-listed dimensions new)) (λ p h. at p (omega (arith, long)))
   where
     d : ℕ
-    d = dim t c
+    d = K .dim c
 
     old : ℕ → ℕ
-    old p = additionsIn t adds p c
+    old p = additionsIn K adds p c
 
     new : ℕ → ℕ
-    new p = additionsIn t (with-row adds c n) p (suc c)
+    new p = additionsIn K (with-row adds c n) p (suc c)
 
     v : ℕ
     v = getD l d 0 + n
 
-    wide : length l ≡ top + 1
-    wide = ap length is ∙ length-listed (top + 1) old
+    wide : length l ≡ dimensions
+    wide = ap length is ∙ length-listed dimensions old
 
-    long : length (set l d v) ≡ top + 1
+    long : length (set l d v) ≡ dimensions
     long = length-set l d v ∙ wide
 
-    was : (p : ℕ) → p ≤ top → getD l p 0 ≡ old p
+    was : (p : ℕ) → p < dimensions → getD l p 0 ≡ old p
     was p h = ap (λ (x : List ℕ). getD x p 0) is ∙ count-at old p h
 
     now : (p : ℕ) → new p ≡ old p + pick (eqb d p) n 0
-    now p = row-counted t adds p c n ∙ ap (λ (x : Bool). old p + pick (x && eqb d p) n 0) living
+    now p = row-counted K adds p c n ∙ ap (λ (x : Bool). old p + pick (x && eqb d p) n 0) living
 
-    at : (p : ℕ) → p ≤ top → getD (set l d v) p 0 ≡ getD (counts new) p 0
+    at : (p : ℕ) → p < dimensions → getD (set l d v) p 0 ≡ getD (counts new) p 0
     at p h = by-cases (ℕ-discrete p d)
         (λ e. ap (λ (q : ℕ). getD (set l d v) q 0) e
         ∙ getD-set-same l d v 0 (omega (arith, wide))

@@ -10,32 +10,32 @@ use Rattle.homology.proofs.Marks.{by-order, clash}
 use Rattle.bitset.specs.Bits.{bits, member, sumOf, IsGreatest}
 use Rattle.bitset.proofs.Marks.{true-member, false-member}
 use Rattle.bitset.proofs.Greatest.{sum-of-tops-empty}
-use Rattle.reducer.proofs.Computed.{highestBelow, highest-found, highest-none, highest-at-most}
+use Rattle.reducer.proofs.Computed.{largestBelow, largest-found, largest-none, largest-at-most}
 
 unfoldable pub height : List ℕ → ℕ
-height ws = highestBelow (bits * length ws) (member ws)
+height ws = largestBelow (bits * length ws) (member ws)
 
 pub height-inside : (ws : List ℕ) → height ws ≤ bits * length ws
 unfolding height
 height-inside ws = go (height ws) refl
   where
-    go : (h : ℕ) → highestBelow (bits * length ws) (member ws) ≡ h → h ≤ bits * length ws
+    go : (h : ℕ) → largestBelow (bits * length ws) (member ws) ≡ h → h ≤ bits * length ws
     go zero e = omega arith
-    go (suc k) e = highest-found (bits * length ws) (member ws) k e .0
+    go (suc k) e = largest-found (bits * length ws) (member ws) k e .0
 
 -- a member is below the height
-above-member : (n m : ℕ) (x : ℕ → Bool) → m < n → x m ≡ true → m < highestBelow n x
-above-member n m x l e = go (highestBelow n x) refl
+above-member : (n m : ℕ) (x : ℕ → Bool) → m < n → x m ≡ true → m < largestBelow n x
+above-member n m x l e = go (largestBelow n x) refl
   where
-    go : (h : ℕ) → highestBelow n x ≡ h → m < h
-    go zero q = clash e (highest-none n x q m l)
-    go (suc k) q = by-order m k (λ i. omega arith) (λ i. omega arith) (λ i. clash e (highest-found n x k q .2 m i l))
+    go : (h : ℕ) → largestBelow n x ≡ h → m < h
+    go zero q = clash e (largest-none n x q m l)
+    go (suc k) q = by-order m k (λ i. omega arith) (λ i. omega arith) (λ i. clash e (largest-found n x k q .2 m i l))
 
 -- adding a set with the same largest member
 pub height-falls : (x y : List ℕ) (m : ℕ) → length x ≡ length y → IsGreatest x m → IsGreatest y m → height (sumOf x y) < height x
 unfolding height
-height-falls x y m e top top′ = omega (
+height-falls x y m e g h = omega (
   arith,
-  highest-at-most (bits * length (sumOf x y)) m (member (sumOf x y)) (λ s l. false-member (sumOf x y) s (sum-of-tops-empty x y m e top top′ s l)),
-  above-member (bits * length x) m (member x) (top .inside) (true-member x m (top .in-set)),
+  largest-at-most (bits * length (sumOf x y)) m (member (sumOf x y)) (λ s l. false-member (sumOf x y) s (sum-of-tops-empty x y m e g h s l)),
+  above-member (bits * length x) m (member x) (g .inside) (true-member x m (g .in-set)),
 )

@@ -6,6 +6,7 @@ use Prim.Native.Nat.{ℕ, suc, _<_}
 use native.Mathlib.Omega.{arith}
 use lib.ListN.{length, getD, set, length-set}
 use lib.Seq.{getD-set-same, getD-set-other}
+use Rattle.homology.specs.Cells.{Cells}
 use Rattle.homology.proofs.Marks.{by-order}
 use Rattle.bitset.specs.Bits.{IsGreatest}
 use Rattle.bitset.proofs.Greatest.{greatest-unique}
@@ -16,21 +17,21 @@ use Rattle.reducer.specs.Rule.{LargestOf}
 use Rattle.reducer.specs.Work.{Bounds, Owned}
 use Rattle.reducer.proofs.Boundaries.{of-largest}
 
-pub owned-stays : {t ev ev′ kept owner : List ℕ} {c : ℕ} → ((b : ℕ) → b < c → rowOf t ev′ b ≡ rowOf t ev b) → Owned t ev kept owner c → Owned t ev′ kept owner c
-owned-stays {t} {kept = kept} {owner} same own = record {
-  free = λ m b q l g. own .free m b q l (subst (λ (x : List ℕ). LargestOf t x m) (same b l) g);
+pub owned-stays : {K : Cells} {ev ev′ kept owner : List ℕ} {c : ℕ} → ((b : ℕ) → b < c → rowOf K ev′ b ≡ rowOf K ev b) → Owned K ev kept owner c → Owned K ev′ kept owner c
+owned-stays {K} {kept = kept} {owner} same own = record {
+  free = λ m b q l g. own .free m b q l (subst (λ (x : List ℕ). LargestOf K x m) (same b l) g);
   earlier = own .earlier;
-  bounds = λ m l h. subst (Bounds t (rowOf t kept m)) (sym (same (getD owner m 0) (own .earlier m l h))) (own .bounds m l h);
+  bounds = λ m l h. subst (Bounds K (rowOf K kept m)) (sym (same (getD owner m 0) (own .earlier m l h))) (own .bounds m l h);
   largest = own .largest;
 }
 
-module _ {t ev kept owner : List ℕ} {c : ℕ} (own : Owned t ev kept owner c) where
+module _ {K : Cells} {ev kept owner : List ℕ} {c : ℕ} (own : Owned K ev kept owner c) where
   -- a row whose boundary is empty owns nothing
-  pub owned-more : ((m : ℕ) → LargestOf t (rowOf t ev c) m → ⊥) → Owned t ev kept owner (suc c)
+  pub owned-more : ((m : ℕ) → LargestOf K (rowOf K ev c) m → ⊥) → Owned K ev kept owner (suc c)
   owned-more none = record {
     free = λ m b q l g. by-order b c
         (λ k. own .free m b q k g)
-        (λ k. none m (subst (λ (i : ℕ). LargestOf t (rowOf t ev i) m) k g))
+        (λ k. none m (subst (λ (i : ℕ). LargestOf K (rowOf K ev i) m) k g))
         (λ k. omega arith);
     earlier = λ m l h. let k : getD owner m 0 < c = own .earlier m l h in omega arith;
     bounds = own .bounds;
@@ -38,16 +39,16 @@ module _ {t ev kept owner : List ℕ} {c : ℕ} (own : Owned t ev kept owner c) 
   }
 
   -- row c has the boundary x with the largest cell m
-  module _ {x : List ℕ} (is : Bounds t x (rowOf t ev c)) {m : ℕ} (top : IsGreatest x m) where
-    one : (i : ℕ) → LargestOf t (rowOf t ev c) i → i ≡ m
-    one i g = greatest-unique x i m (of-largest is g) top
+  module _ {x : List ℕ} (is : Bounds K x (rowOf K ev c)) {m : ℕ} (largest : IsGreatest x m) where
+    one : (i : ℕ) → LargestOf K (rowOf K ev c) i → i ≡ m
+    one i g = greatest-unique x i m (of-largest is g) largest
 
     -- where m is free, no earlier row has the same largest cell
-    pub free-alone : getD owner m 0 ≡ freeMark → (b i : ℕ) → b < c → LargestOf t (rowOf t ev c) i → LargestOf t (rowOf t ev b) i → ⊥
-    free-alone free b i l g h = own .free m b free l (subst (LargestOf t (rowOf t ev b)) (one i g) h)
+    pub free-alone : getD owner m 0 ≡ freeMark → (b i : ℕ) → b < c → LargestOf K (rowOf K ev c) i → LargestOf K (rowOf K ev b) i → ⊥
+    free-alone free b i l g h = own .free m b free l (subst (LargestOf K (rowOf K ev b)) (one i g) h)
 
     -- x is kept at m, and c owns it
-    module _ (kept′ : List ℕ) (inside : m < length owner) (small : c < capacity) (row : rowOf t kept′ m ≡ x) (others : (i : ℕ) → (i ≡ m → ⊥) → rowOf t kept′ i ≡ rowOf t kept i) where
+    module _ (kept′ : List ℕ) (inside : m < length owner) (small : c < capacity) (row : rowOf K kept′ m ≡ x) (others : (i : ℕ) → (i ≡ m → ⊥) → rowOf K kept′ i ≡ rowOf K kept i) where
       abbrev owner′ : ℕ → ℕ
       owner′ i = getD (set owner m c) i 0
 
@@ -60,21 +61,21 @@ module _ {t ev kept owner : List ℕ} {c : ℕ} (own : Owned t ev kept owner c) 
       there : (i : ℕ) → (i ≡ m → ⊥) → owner′ i ≡ getD owner i 0
       there i apart = getD-set-other owner m i c 0 apart
 
-      pub owned-kept : Owned t ev kept′ (set owner m c) (suc c)
+      pub owned-kept : Owned K ev kept′ (set owner m c) (suc c)
       owned-kept = record {
-        free = λ i b. same-or-other (λ i. owner′ i ≡ freeMark → b < suc c → LargestOf t (rowOf t ev b) i → ⊥) i m
+        free = λ i b. same-or-other (λ i. owner′ i ≡ freeMark → b < suc c → LargestOf K (rowOf K ev b) i → ⊥) i m
             (λ q. omega (arith, here))
             (λ apart q l g. by-order b c
             (λ k. own .free i b (sym (there i apart) ∙ q) k g)
-            (λ k. apart (one i (subst (λ (j : ℕ). LargestOf t (rowOf t ev j) i) k g)))
+            (λ k. apart (one i (subst (λ (j : ℕ). LargestOf K (rowOf K ev j) i) k g)))
             (λ k. omega arith));
         earlier = λ i l. same-or-other (λ i. (owner′ i ≡ freeMark → ⊥) → owner′ i < suc c) i m
             (λ h. omega (arith, here))
             (λ apart h. omega (arith, there i apart, own .earlier i (long i l) (λ q. h (there i apart ∙ q))));
-        bounds = λ i l. same-or-other (λ i. (owner′ i ≡ freeMark → ⊥) → Bounds t (rowOf t kept′ i) (rowOf t ev (owner′ i))) i m
+        bounds = λ i l. same-or-other (λ i. (owner′ i ≡ freeMark → ⊥) → Bounds K (rowOf K kept′ i) (rowOf K ev (owner′ i))) i m
             (λ h. rw (row, here) is)
             (λ apart h. rw (others i apart, there i apart) (own .bounds i (long i l) (λ q. h (there i apart ∙ q))));
-        largest = λ i l. same-or-other (λ i. (owner′ i ≡ freeMark → ⊥) → IsGreatest (rowOf t kept′ i) i) i m
-            (λ h. rw row top)
+        largest = λ i l. same-or-other (λ i. (owner′ i ≡ freeMark → ⊥) → IsGreatest (rowOf K kept′ i) i) i m
+            (λ h. rw row largest)
             (λ apart h. rw (others i apart) (own .largest i (long i l) (λ q. h (there i apart ∙ q))));
       }

@@ -1,80 +1,76 @@
--- The reducer at work: rows of words, which row owns a largest cell, and what each step of the work leaves.
+-- The reducer at work: which row owns a largest cell, and what each step of the work leaves.
 -- Cited by the contracts of private functions alone, beside the definitions of Rule.antt; nothing here is proved.
 use mathlib.Core.Path.{_≡_}
 use mathlib.Core.List.{List}
 use Prim.Native.Nat.{ℕ, suc, _*_, _<_, _≤_}
-use lib.ListN.{length, getD, take, drop}
+use lib.ListN.{length, getD}
+use Rattle.homology.specs.Cells.{Cells}
 use Rattle.homology.specs.Holes.{boundary}
-use Rattle.bitset.specs.Bits.{bits, member, toggled, sumOf, IsGreatest}
+use Rattle.bitset.specs.Bits.{bits, member, IsGreatest}
 use Rattle.table.specs.Kind.{capacity, freeMark}
-use Rattle.complex.specs.Cells.{cells}
 use Rattle.rows.specs.Rows.{rowWidth, evidenceWords, rowOf}
 use Rattle.reducer.specs.Rule.{Additions, LargestOf, alone, emptyRow}
 
--- row b of words that stand w to a row
-abbrev pub rowAt : ℕ → List ℕ → ℕ → List ℕ
-rowAt w ws b = take w (drop (b * w) ws)
+-- Tables whose rows have one word, and those whose rows have up to four: the most cells of each.
+abbrev pub small : ℕ
+small = bits
 
--- row m was set to the words x, and no other row changed
-pub record RowKept (w m : ℕ) (x ws ws′ : List ℕ) : Type 0 where
-  pub long : length ws′ ≡ length ws
-  pub row : rowAt w ws′ m ≡ x
-  pub others : (i : ℕ) → (i ≡ m → ⊥) → rowAt w ws′ i ≡ rowAt w ws i
+abbrev pub middleWords : ℕ
+middleWords = 4
 
--- row a was added to row c
-abbrev pub RowAdded : ℕ → ℕ → ℕ → List ℕ → List ℕ → Type 0
-RowAdded w c a ws ws′ = RowKept w c (sumOf (rowAt w ws c) (rowAt w ws a)) ws ws′
-
--- cell c was put into row c, or taken out
-abbrev pub RowStarted : ℕ → ℕ → List ℕ → List ℕ → Type 0
-RowStarted w c ws ws′ = RowKept w c (toggled (rowAt w ws c) c) ws ws′
+abbrev pub middle : ℕ
+middle = middleWords * bits
 
 -- the words x are the boundary of the row y
-pub record Bounds (t x y : List ℕ) : Type 0 where
-  pub same : (s : ℕ) → member x s ≡ boundary (cells t) (member y) s
+pub record Bounds (K : Cells) (x y : List ℕ) : Type 0 where
+  pub same : (s : ℕ) → member x s ≡ boundary K (member y) s
 
 -- Of the rows below c, the owner list names for each cell m the one whose boundary has m as its largest cell, and the free mark
 -- where none has. The boundary of the owner's row is kept at m.
-pub record Owned (t ev kept owner : List ℕ) (c : ℕ) : Type 0 where
-  pub free : (m b : ℕ) → getD owner m 0 ≡ freeMark → b < c → LargestOf t (rowOf t ev b) m → ⊥
+pub record Owned (K : Cells) (ev kept owner : List ℕ) (c : ℕ) : Type 0 where
+  pub free : (m b : ℕ) → getD owner m 0 ≡ freeMark → b < c → LargestOf K (rowOf K ev b) m → ⊥
   pub earlier : (m : ℕ) → m < length owner → (getD owner m 0 ≡ freeMark → ⊥) → getD owner m 0 < c
-  pub bounds : (m : ℕ) → m < length owner → (getD owner m 0 ≡ freeMark → ⊥) → Bounds t (rowOf t kept m) (rowOf t ev (getD owner m 0))
-  pub largest : (m : ℕ) → m < length owner → (getD owner m 0 ≡ freeMark → ⊥) → IsGreatest (rowOf t kept m) m
+  pub bounds : (m : ℕ) → m < length owner → (getD owner m 0 ≡ freeMark → ⊥) → Bounds K (rowOf K kept m) (rowOf K ev (getD owner m 0))
+  pub largest : (m : ℕ) → m < length owner → (getD owner m 0 ≡ freeMark → ⊥) → IsGreatest (rowOf K kept m) m
 
--- the three buffers are large enough for the table
-pub record Roomy (t : List ℕ) (ev kept owner : List ℕ) : Type 0 where
-  pub evidence : length ev ≡ evidenceWords t
-  pub boundaries : bits * rowWidth t * rowWidth t ≤ length kept
-  pub owners : bits * rowWidth t ≤ length owner
+-- the three buffers are large enough for the cells
+pub record Roomy (K : Cells) (ev kept owner : List ℕ) : Type 0 where
+  pub evidence : length ev ≡ evidenceWords K
+  pub boundaries : bits * rowWidth K * rowWidth K ≤ length kept
+  pub owners : bits * rowWidth K ≤ length owner
 
 -- the rows below c are finished, and row c is empty
-pub record Ready (t : List ℕ) (c : ℕ) (ev kept owner : List ℕ) : Type 0 where
-  pub roomy : Roomy t ev kept owner
-  pub owned : Owned t ev kept owner c
-  pub empty : rowOf t ev c ≡ emptyRow t
+pub record Ready (K : Cells) (c : ℕ) (ev kept owner : List ℕ) : Type 0 where
+  pub roomy : Roomy K ev kept owner
+  pub owned : Owned K ev kept owner c
+  pub empty : rowOf K ev c ≡ emptyRow K
 
 -- row c is the cell alone, and x its boundary
-pub record Begun (t : List ℕ) (c : ℕ) (x ev kept owner : List ℕ) : Type 0 where
-  pub roomy : Roomy t ev kept owner
-  pub owned : Owned t ev kept owner c
-  pub row : rowOf t ev c ≡ alone t c
-  pub long : length x ≡ rowWidth t
-  pub bounds : Bounds t x (rowOf t ev c)
+pub record Begun (K : Cells) (c : ℕ) (x ev kept owner : List ℕ) : Type 0 where
+  pub roomy : Roomy K ev kept owner
+  pub owned : Owned K ev kept owner c
+  pub row : rowOf K ev c ≡ alone K c
+  pub long : length x ≡ rowWidth K
+  pub bounds : Bounds K x (rowOf K ev c)
 
 -- row c is finished too, by n additions
-pub record Finished (t : List ℕ) (c : ℕ) (ev ev′ kept′ owner′ : List ℕ) (n : ℕ) : Type 0 where
-  pub roomy : Roomy t ev′ kept′ owner′
-  pub row : Additions t ev′ c (alone t c) n (rowOf t ev′ c)
+pub record Finished (K : Cells) (c : ℕ) (ev ev′ kept′ owner′ : List ℕ) (n : ℕ) : Type 0 where
+  pub roomy : Roomy K ev′ kept′ owner′
+  pub row : Additions K ev′ c (alone K c) n (rowOf K ev′ c)
   pub few : n ≤ capacity
-  pub owned : Owned t ev′ kept′ owner′ (suc c)
-  pub others : (b : ℕ) → (b ≡ c → ⊥) → rowOf t ev′ b ≡ rowOf t ev b
+  pub owned : Owned K ev′ kept′ owner′ (suc c)
+  pub others : (b : ℕ) → (b ≡ c → ⊥) → rowOf K ev′ b ≡ rowOf K ev b
+
+-- every word is 0
+abbrev pub Blank : List ℕ → Type 0
+Blank ws = (k : ℕ) → getD ws k 0 ≡ 0
 
 -- before the first row: no word of evidence is set, and no cell has an owner
 pub record Fresh (ev owner : List ℕ) : Type 0 where
-  pub no-rows : (k : ℕ) → getD ev k 0 ≡ 0
+  pub no-rows : Blank ev
   pub no-owners : (m : ℕ) → m < length owner → getD owner m 0 ≡ freeMark
 
--- every word is 0
+-- every word was set to 0
 pub record Cleared (ws ws′ : List ℕ) : Type 0 where
   pub long : length ws′ ≡ length ws
-  pub zero-words : (k : ℕ) → getD ws′ k 0 ≡ 0
+  pub blank : Blank ws′

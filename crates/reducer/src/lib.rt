@@ -1,60 +1,32 @@
 // The reducer: makes evidence for a hole count. It keeps the boundaries of finished rows, each at its largest cell, beside the number
 // of the row; taking boundaries anew for each addition would cost two orders of magnitude on the worst table. It asks no heap.
 ghost use mathlib.Core.Path.{_≡_};
-ghost use Prim.Native.Nat.{ℕ, _+_, _*_, _/_, _≤_, _<_};
-ghost use lib.ListN.{length, getD};
-ghost use Rattle.table.specs.Table.{cellsOf, Live, Valid};
+ghost use mathlib.Core.Bool.{true};
+ghost use Prim.Native.Nat.{_≤_, _<_};
+ghost use lib.ListN.{length};
+ghost use Rattle.complex.specs.View.{viewOf, Frame};
+ghost use Rattle.complex.specs.Cells.{cells};
 ghost use Rattle.rows.specs.Rows.{rowWidth, evidenceWords};
 ghost use Rattle.reducer.specs.Reduce.{Reduces, Reduction, reduceVerdict};
-ghost use Rattle.reducer.specs.Work.{RowStarted, RowAdded, RowKept, Roomy, Ready, Begun, Finished, Fresh, Cleared};
+ghost use Rattle.reducer.specs.Work.{small, middleWords, middle, Roomy, Ready, Begun, Finished, Blank, Fresh, Cleared};
 use bitset::Top;
-use table::Refusal;
+use calls::Refusal;
+use calls::Verdict;
+use rows::view;
 use table::Table;
-use table::Verdict;
+
+// The most cells of a table whose rows have one word.
+const SMALL: usize = 64;
+
+// The most words in a row of a table of middle size, and the most cells of such a table.
+const MIDDLE_WORDS: usize = 4;
+
+const MIDDLE: usize = MIDDLE_WORDS * SMALL;
 
 // The verdict, and beside it the additions made in each dimension; all 0 on a refusal.
 pub struct Reduced {
     pub verdict: Verdict,
-    pub additions: [u64; 7],
-}
-
-// Puts cell c into row c, which is empty.
-fn start_row(evidence: &mut [u64], c: usize, w: usize)
-    requires { ⌜ c / 64 < w ⌝ }
-    requires { ⌜ c * w + w ≤ length (now evidence) ⌝ }
-    ensures { λ _. ⌜ RowStarted w c (now (evidence .entry)) (now (evidence .exit)) ⌝ }
-{
-    let k = c * w + c / 64;
-    evidence[k] ^= (1 << (c % 64));
-}
-
-// Adds the earlier row a to row c.
-fn add_row(evidence: &mut [u64], c: usize, a: usize, w: usize)
-    requires { ⌜ a < c ⌝ }
-    requires { ⌜ c * w + w ≤ length (now evidence) ⌝ }
-    ensures { λ _. ⌜ RowAdded w c a (now (evidence .entry)) (now (evidence .exit)) ⌝ }
-{
-    let to = c * w;
-    let from = a * w;
-    let mut k = 0;
-    while k < w {
-        evidence[to + k] = evidence[to + k] ^ evidence[from + k];
-        k += 1;
-    }
-}
-
-// Keeps a boundary of w words at cell m.
-fn keep(kept: &mut [u64], m: usize, w: usize, words: &[u64])
-    requires { ⌜ m * w + w ≤ length (now kept) ⌝ }
-    requires { ⌜ length (now words) ≡ w ⌝ }
-    ensures { λ _. ⌜ RowKept w m (now (words .entry)) (now (kept .entry)) (now (kept .exit)) ⌝ }
-{
-    let at = m * w;
-    let mut k = 0;
-    while k < w {
-        kept[at + k] = words[k];
-        k += 1;
-    }
+    pub additions: [u64; Table::DIMENSIONS],
 }
 
 // Finishes row c, whose boundary is b: while an earlier row has the same largest cell, it is added. Answers the additions made.
@@ -68,16 +40,16 @@ fn finish_row(
     kept: &mut [u64],
     owner: &mut [u16],
 ) -> u64
-    requires { ⌜ Valid (now t) ⌝ }
-    requires { ⌜ Live (now t) c ⌝ }
-    requires { ⌜ w ≡ rowWidth (now t) ⌝ }
-    requires { ⌜ Begun (now t) c (now b) (now evidence) (now kept) (now owner) ⌝ }
-    ensures { λ n. ⌜ Finished (now (t .entry)) c (now (evidence .entry)) (now (evidence .exit)) (now (kept .exit)) (now (owner .exit)) n ⌝ }
+    requires { ⌜ Frame (viewOf (now t)) ⌝ }
+    requires { ⌜ c < cells (now t) .size ⌝ }
+    requires { ⌜ w ≡ rowWidth (cells (now t)) ⌝ }
+    requires { ⌜ Begun (cells (now t)) c (now b) (now evidence) (now kept) (now owner) ⌝ }
+    ensures { λ n. ⌜ Finished (cells (now (t .entry))) c (now (evidence .entry)) (now (evidence .exit)) (now (kept .exit)) (now (owner .exit)) n ⌝ }
 {
     let mut additions = 0;
     loop {
-        let top = bitset::largest(b);
-        match top {
+        let largest = bitset::largest(b);
+        match largest {
             Top::Nothing => {
                 return additions;
             }
@@ -85,13 +57,11 @@ fn finish_row(
                 let a = owner[m];
                 if a == Table::FREE {
                     owner[m] = c as u16;
-                    keep(kept, m, w, b);
+                    bitset::keep_row(kept, m, w, b);
                     return additions;
                 }
-                add_row(evidence, c, a as usize, w);
-                let from = m * w;
-                let end = from + w;
-                bitset::add(b, &kept[from..end]);
+                bitset::add_row(evidence, c, a as usize, w);
+                bitset::add_kept(b, kept, m, w);
                 additions += 1;
             }
         }
@@ -107,36 +77,40 @@ fn reduce_row(
     kept: &mut [u64],
     owner: &mut [u16],
 ) -> u64
-    requires { ⌜ Valid (now t) ⌝ }
-    requires { ⌜ Live (now t) c ⌝ }
-    requires { ⌜ w ≡ rowWidth (now t) ⌝ }
-    requires { ⌜ Ready (now t) c (now evidence) (now kept) (now owner) ⌝ }
-    ensures { λ n. ⌜ Finished (now (t .entry)) c (now (evidence .entry)) (now (evidence .exit)) (now (kept .exit)) (now (owner .exit)) n ⌝ }
+    requires { ⌜ Frame (viewOf (now t)) ⌝ }
+    requires { ⌜ cells (now t) .live c ≡ true ⌝ }
+    requires { ⌜ w ≡ rowWidth (cells (now t)) ⌝ }
+    requires { ⌜ Ready (cells (now t)) c (now evidence) (now kept) (now owner) ⌝ }
+    ensures { λ n. ⌜ Finished (cells (now (t .entry))) c (now (evidence .entry)) (now (evidence .exit)) (now (kept .exit)) (now (owner .exit)) n ⌝ }
 {
-    start_row(evidence, c, w);
-    let mut faces = [0; 8];
+    bitset::start_row(evidence, c, w);
+    let mut faces = [0; bitset::FULL];
     rows::add_faces(t, c, &mut faces);
     finish_row(t, c, w, &mut faces[..w], evidence, kept, owner)
 }
 
 // Takes the live cells in rising number, and counts the additions by dimension.
-fn reduce_rows(t: &[u16], evidence: &mut [u64], kept: &mut [u64], owner: &mut [u16]) -> [u64; 7]
-    requires { ⌜ Valid (now t) ⌝ }
-    requires { ⌜ Roomy (now t) (now evidence) (now kept) (now owner) ⌝ }
+fn reduce_rows(
+    t: &[u16],
+    evidence: &mut [u64],
+    kept: &mut [u64],
+    owner: &mut [u16],
+) -> [u64; Table::DIMENSIONS]
+    requires { ⌜ Frame (viewOf (now t)) ⌝ }
+    requires { ⌜ Roomy (cells (now t)) (now evidence) (now kept) (now owner) ⌝ }
     requires { ⌜ Fresh (now evidence) (now owner) ⌝ }
-    ensures { λ r. ⌜ Reduction (now (t .entry)) (now (evidence .exit)) r ⌝ }
+    ensures { λ r. ⌜ Reduction (cells (now (t .entry))) (now (evidence .exit)) r ⌝ }
 {
-    let n = Table::room(t);
+    let n = view::size(t);
     let w = bitset::words_for(n);
-    let mut additions = [0; 7];
+    let mut additions = [0; Table::DIMENSIONS];
     for c in 0..n {
-        let p = Table::dim(t, c);
-        if p > Table::TOP {
+        let p = view::dim(t, c);
+        if p >= Table::DIMENSIONS {
             continue;
         }
         let made = reduce_row(t, c, w, evidence, kept, owner);
-        let at = p as usize;
-        additions[at] += made;
+        additions[p] += made;
     }
     additions
 }
@@ -153,55 +127,55 @@ fn clear(words: &mut [u64])
 }
 
 // Takes all rows of a table of one word to a row. A small table asks for small arrays: setting large ones to 0 would cost more than its rows.
-fn fill_small(t: &[u16], evidence: &mut [u64]) -> [u64; 7]
-    requires { ⌜ Valid (now t) ⌝ }
-    requires { ⌜ length (now evidence) ≡ evidenceWords (now t) ⌝ }
-    requires { ⌜ cellsOf (now t) ≤ 64 ⌝ }
-    requires { ⌜ ((k : ℕ) → getD (now evidence) k 0 ≡ 0) ⌝ }
-    ensures { λ r. ⌜ Reduction (now (t .entry)) (now (evidence .exit)) r ⌝ }
+fn fill_small(t: &[u16], evidence: &mut [u64]) -> [u64; Table::DIMENSIONS]
+    requires { ⌜ Frame (viewOf (now t)) ⌝ }
+    requires { ⌜ length (now evidence) ≡ evidenceWords (cells (now t)) ⌝ }
+    requires { ⌜ cells (now t) .size ≤ small ⌝ }
+    requires { ⌜ Blank (now evidence) ⌝ }
+    ensures { λ r. ⌜ Reduction (cells (now (t .entry))) (now (evidence .exit)) r ⌝ }
 {
-    let mut kept = [0; 64];
-    let mut owner = [Table::FREE; 64];
+    let mut kept = [0; SMALL];
+    let mut owner = [Table::FREE; SMALL];
     reduce_rows(t, evidence, &mut kept, &mut owner)
 }
 
 // The same for up to four words to a row.
-fn fill_middle(t: &[u16], evidence: &mut [u64]) -> [u64; 7]
-    requires { ⌜ Valid (now t) ⌝ }
-    requires { ⌜ length (now evidence) ≡ evidenceWords (now t) ⌝ }
-    requires { ⌜ cellsOf (now t) ≤ 256 ⌝ }
-    requires { ⌜ ((k : ℕ) → getD (now evidence) k 0 ≡ 0) ⌝ }
-    ensures { λ r. ⌜ Reduction (now (t .entry)) (now (evidence .exit)) r ⌝ }
+fn fill_middle(t: &[u16], evidence: &mut [u64]) -> [u64; Table::DIMENSIONS]
+    requires { ⌜ Frame (viewOf (now t)) ⌝ }
+    requires { ⌜ length (now evidence) ≡ evidenceWords (cells (now t)) ⌝ }
+    requires { ⌜ cells (now t) .size ≤ middle ⌝ }
+    requires { ⌜ Blank (now evidence) ⌝ }
+    ensures { λ r. ⌜ Reduction (cells (now (t .entry))) (now (evidence .exit)) r ⌝ }
 {
-    let mut kept = [0; 1024];
-    let mut owner = [Table::FREE; 256];
+    let mut kept = [0; MIDDLE * MIDDLE_WORDS];
+    let mut owner = [Table::FREE; MIDDLE];
     reduce_rows(t, evidence, &mut kept, &mut owner)
 }
 
-// Takes all rows of any table: 512 rows of 8 words.
-fn fill_large(t: &[u16], evidence: &mut [u64]) -> [u64; 7]
-    requires { ⌜ Valid (now t) ⌝ }
-    requires { ⌜ length (now evidence) ≡ evidenceWords (now t) ⌝ }
-    requires { ⌜ ((k : ℕ) → getD (now evidence) k 0 ≡ 0) ⌝ }
-    ensures { λ r. ⌜ Reduction (now (t .entry)) (now (evidence .exit)) r ⌝ }
+// The same for any table.
+fn fill_large(t: &[u16], evidence: &mut [u64]) -> [u64; Table::DIMENSIONS]
+    requires { ⌜ Frame (viewOf (now t)) ⌝ }
+    requires { ⌜ length (now evidence) ≡ evidenceWords (cells (now t)) ⌝ }
+    requires { ⌜ Blank (now evidence) ⌝ }
+    ensures { λ r. ⌜ Reduction (cells (now (t .entry))) (now (evidence .exit)) r ⌝ }
 {
-    let mut kept = [0; Table::CAPACITY * 8];
+    let mut kept = [0; Table::CAPACITY * bitset::FULL];
     let mut owner = [Table::FREE; Table::CAPACITY];
     reduce_rows(t, evidence, &mut kept, &mut owner)
 }
 
 // The whole of the work, over any old contents.
-fn fill(t: &[u16], evidence: &mut [u64]) -> [u64; 7]
-    requires { ⌜ Valid (now t) ⌝ }
-    requires { ⌜ length (now evidence) ≡ evidenceWords (now t) ⌝ }
-    ensures { λ r. ⌜ Reduction (now (t .entry)) (now (evidence .exit)) r ⌝ }
+fn fill(t: &[u16], evidence: &mut [u64]) -> [u64; Table::DIMENSIONS]
+    requires { ⌜ Frame (viewOf (now t)) ⌝ }
+    requires { ⌜ length (now evidence) ≡ evidenceWords (cells (now t)) ⌝ }
+    ensures { λ r. ⌜ Reduction (cells (now (t .entry))) (now (evidence .exit)) r ⌝ }
 {
     clear(evidence);
-    let n = Table::room(t);
-    if n <= 64 {
+    let n = view::size(t);
+    if n <= SMALL {
         return fill_small(t, evidence);
     }
-    if n <= 256 {
+    if n <= MIDDLE {
         return fill_middle(t, evidence);
     }
     fill_large(t, evidence)
@@ -211,10 +185,10 @@ fn fill(t: &[u16], evidence: &mut [u64]) -> [u64; 7]
 fn judge(t: &[u16], evidence: &[u64]) -> Verdict
     ensures { λ r. ⌜ r ≡ reduceVerdict (now (t .entry)) (now (evidence .entry)) ⌝ }
 {
-    let n = Table::of(t).cells;
-    if n == 0 {
+    if !Table::fits(t) {
         return Verdict::Refused(Refusal::Length);
     }
+    let n = view::size(t);
     if evidence.len() != n * bitset::words_for(n) {
         return Verdict::Refused(Refusal::Length);
     }
@@ -229,7 +203,7 @@ pub fn reduce(t: &[u16], evidence: &mut [u64]) -> Reduced
     match v {
         Verdict::Refused(x) => Reduced {
             verdict: Verdict::Refused(x),
-            additions: [0; 7],
+            additions: [0; Table::DIMENSIONS],
         },
         Verdict::Accepted => {
             let additions = fill(t, evidence);
@@ -240,3 +214,10 @@ pub fn reduce(t: &[u16], evidence: &mut [u64]) -> Reduced
         }
     }
 }
+
+// The numbers of the code are those of the definitions.
+fn same_numbers()
+    ensures { λ _. do ⌜ (← ⟦SMALL⟧ .entry) ≡ small ⌝ }
+    ensures { λ _. do ⌜ (← ⟦MIDDLE_WORDS⟧ .entry) ≡ middleWords ⌝ }
+    ensures { λ _. do ⌜ (← ⟦MIDDLE⟧ .entry) ≡ middle ⌝ }
+{}

@@ -1,9 +1,9 @@
 -- The checker accepts what the reducer leaves, and the numbers that it then answers are small and are hole numbers.
 -- What carries it: the reducer's rows meet rules A and B, which is all that the checker asks. Assumes nothing.
 use mathlib.Core.Path.{_≡_, sym, ap, subst, _∙_}
-use mathlib.Core.Bool.{Bool, true, false, _&&_}
+use mathlib.Core.Bool.{_&&_}
 use mathlib.Core.List.{List}
-use Prim.Native.Nat.{ℕ, zero, suc, _+_, _≤_, _<_}
+use Prim.Native.Nat.{ℕ, _+_, _≤_, _<_}
 use native.Mathlib.Omega.{arith}
 use lib.Dec.{eqb}
 use lib.ListN.{length, getD}
@@ -11,35 +11,33 @@ use Rattle.counting.proofs.Counting.{howMany-most}
 use Rattle.homology.specs.Cells.{Cells}
 use Rattle.homology.specs.Holes.{IsHoleNumber}
 use Rattle.homology.specs.Evidence.{Rows, cellsIn, holesIn}
-use Rattle.table.specs.Kind.{capacity, top}
+use Rattle.table.specs.Kind.{capacity, top, dimensions}
 use Rattle.table.specs.Table.{Valid}
-use Rattle.table.specs.declared.Verdict.{Verdict}
-use Rattle.table.specs.declared.Verdict.the-variants.{Accepted}
-use Rattle.table.proofs.Words.{getD-listed}
+use Rattle.calls.specs.declared.Verdict.{Verdict}
+use Rattle.calls.specs.declared.Verdict.the-variants.{Accepted}
+use Rattle.counting.proofs.Listed.{getD-listed}
 use Rattle.audit.proofs.Valid.{valid-is-sound}
 use Rattle.complex.specs.Cells.{cells}
+use Rattle.complex.proofs.Boundary.{valid-is-lawful}
 use Rattle.rows.specs.Rows.{evidenceWords, rows}
-use Rattle.sketch.specs.Form.{dimensions}
 use Rattle.sketch.proofs.Pieces.{pieces-cong}
 use Rattle.reducer.specs.Reduce.{reduceVerdict, Reduces}
 use Rattle.reducer.specs.declared.Reduced.{Reduced}
 use Rattle.reducer.proofs.Meeting.{by-rule-meets}
+use Rattle.reducer.proofs.Verdicts.{reducer-accepts}
 use Rattle.checker.specs.Check.{checkVerdict, perDimension, Checks}
 use Rattle.checker.specs.declared.Checked.{Checked}
-use Rattle.checker.proofs.Accepting.{lengths-fit, checker-accepts-iff-rules}
+use Rattle.checker.proofs.Accepting.{checker-accepts-iff-rules}
 use Rattle.checker.proofs.HoleNumbers.{checked-holes-are-hole-numbers}
 use Rattle.report.specs.Lines.{line, linesOf}
 use Rattle.report.specs.Report.{HoleLines}
 
--- the reducer refuses nothing else than a wrong length or a table that is not valid
-pub reducer-accepts : (t ev : List ℕ) → Valid t → length ev ≡ evidenceWords t → reduceVerdict t ev ≡ Accepted
-unfolding reduceVerdict
-reducer-accepts t ev v long = rw (lengths-fit t ev v long, valid-is-sound t v)
-
-pub reducer-is-accepted : (t ev ev′ : List ℕ) (r : Reduced) → Valid t → Reduces t ev r ev′ → reduceVerdict t ev ≡ Accepted → checkVerdict t ev′ ≡ Accepted
-reducer-is-accepted t ev ev′ r v h e =
-    let w = h .accepted e in
-    checker-accepts-iff-rules t ev′ v (w .by-rule .size) .1 (by-rule-meets t ev′ (w .adds) v (w .by-rule))
+-- THEOREM: for every valid table and evidence of its length the reducer accepts, and the checker accepts its rows.
+pub reducer-is-accepted : (t ev ev′ : List ℕ) (r : Reduced) → Valid t → length ev ≡ evidenceWords (cells t) → Reduces t ev r ev′ → (reduceVerdict t ev ≡ Accepted) × (checkVerdict t ev′ ≡ Accepted)
+reducer-is-accepted t ev ev′ r v long h =
+    let granted = reducer-accepts t ev v long in
+    let w = h .accepted granted in
+    (granted, checker-accepts-iff-rules t ev′ v (w .by-rule .size) .1 (by-rule-meets (cells t) ev′ (w .adds) (valid-is-lawful t v) (w .by-rule)))
 
 -- ---- the numbers are small
 
@@ -59,9 +57,9 @@ lines-cong n n′ h e =
     pieces-cong (λ p. line p (n p) (h p)) (λ p. line p (n′ p) (h p)) dimensions
     (λ p l. ap (λ (k : ℕ). line p k (h p)) (e p l))
 
-module _ (t ev ev′ : List ℕ) (a : Reduced) (r : Checked) (v : Valid t) (long : length ev ≡ evidenceWords t) (h : Reduces t ev a ev′) (k : Checks t ev′ r) where
+module _ (t ev ev′ : List ℕ) (a : Reduced) (r : Checked) (v : Valid t) (long : length ev ≡ evidenceWords (cells t)) (h : Reduces t ev a ev′) (k : Checks t ev′ r) where
   accepted : checkVerdict t ev′ ≡ Accepted
-  accepted = reducer-is-accepted t ev ev′ a v h (reducer-accepts t ev v long)
+  accepted = reducer-is-accepted t ev ev′ a v long h .1
 
   answered : (f : ℕ → ℕ) (xs : List ℕ) → xs ≡ perDimension (checkVerdict t ev′) f → (p : ℕ) → p ≤ top → getD xs p 0 ≡ f p
   answered f xs q p l =
@@ -71,15 +69,15 @@ module _ (t ev ev′ : List ℕ) (a : Reduced) (r : Checked) (v : Valid t) (long
   cells-at : (p : ℕ) → p ≤ top → getD (r .cells) p 0 ≡ cellsIn (cells t) p
   cells-at = answered (cellsIn (cells t)) (r .cells) (k .cells-are)
 
-  holes-at : (p : ℕ) → p ≤ top → getD (r .holes) p 0 ≡ holesIn (cells t) (rows t ev′) p
-  holes-at = answered (holesIn (cells t) (rows t ev′)) (r .holes) (k .holes-are)
+  holes-at : (p : ℕ) → p ≤ top → getD (r .holes) p 0 ≡ holesIn (cells t) (rows (cells t) ev′) p
+  holes-at = answered (holesIn (cells t) (rows (cells t) ev′)) (r .holes) (k .holes-are)
 
   pub cells-fit : (p : ℕ) → p ≤ top → getD (r .cells) p 0 ≤ capacity
   cells-fit p l = omega (arith, cells-at p l, cells-in-small (cells t) p, v .sized .room)
 
   pub holes-fit : (p : ℕ) → p ≤ top → getD (r .holes) p 0 ≤ capacity
   holes-fit p l =
-      omega (arith, holes-at p l, holes-in-small (cells t) (rows t ev′) p, cells-in-small (cells t) p, v .sized .room)
+      omega (arith, holes-at p l, holes-in-small (cells t) (rows (cells t) ev′) p, cells-in-small (cells t) p, v .sized .room)
 
   hole-number : (p : ℕ) → p < dimensions → IsHoleNumber (cells t) p (getD (r .holes) p 0)
   hole-number p l =

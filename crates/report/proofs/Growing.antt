@@ -1,19 +1,20 @@
 -- Laws of a text in the making: one byte, a number, a line, seven lines, a refusal.
 -- What carries them: bytes put after bytes, and that putting together is associative. Assumes nothing.
-use mathlib.Core.Path.{_≡_, ap, _∙_}
+use mathlib.Core.Path.{_≡_, ap, sym, _∙_}
 use mathlib.Core.List.{List, [], _∷_, _++_, append-assoc}
-use Prim.Native.Nat.{ℕ, _+_, _*_, _/_, _%_, _≤_, _<_}
+use Prim.Native.Nat.{ℕ, suc, _+_, _-_, _*_, _/_, _%_, _≤_, _<_}
 use native.Mathlib.Numerals.{add-one}
 use native.Mathlib.Omega.{arith}
 use borrow.Author.Tests.{lt-ltb, le-ltb}
-use lib.ListN.{length, take, set}
-use lib.Seq.{take-suc-set}
-use Rattle.table.specs.Numbers.{numberOf}
-use Rattle.table.specs.declared.Refusal.{Refusal}
-use Rattle.table.specs.declared.Refusal.the-variants.{Length, Invalid, NotLive, SameCell, DimensionsDiffer, FacesDiffer, NotClosed, TopMarked, NoRoom, TooLarge, Misplaced, NoSuchPlace, RuleA, RuleB, BadContents, BadNumber}
-use Rattle.sketch.specs.Form.{pieces, dimensions}
+use lib.ListN.{length, take, drop, set, replicate}
+use lib.Seq.{take-suc-set, drop-set-lt, drop-drop}
+use Rattle.calls.specs.Numbers.{numberOf}
+use Rattle.calls.specs.declared.Refusal.{Refusal}
+use Rattle.calls.specs.declared.Refusal.the-variants.{Length, Invalid, NotLive, SameCell, DimensionsDiffer, FacesDiffer, NotClosed, TopMarked, NoRoom, TooLarge, Misplaced, NoSuchPlace, RuleA, RuleB, BadContents, BadNumber}
+use Rattle.sketch.specs.Form.{pieces}
+use Rattle.table.specs.Kind.{dimensions}
 use Rattle.report.specs.declared.Text.{Text}
-use Rattle.report.specs.Lines.{digit, decimal, line, linesOf, refusedLine, space, newline, textOf}
+use Rattle.report.specs.Lines.{digit, decimal, line, linesOf, refusedWord, refusedLine, space, newline, room, textOf, ZerosAfter}
 use Rattle.report.specs.Making.{longestNumber, longestLine, Grown}
 
 -- ---- bytes after bytes
@@ -21,16 +22,26 @@ use Rattle.report.specs.Making.{longestNumber, longestLine, Grown}
 pub taken-one-more : (bytes : List ℕ) (at b : ℕ) → at < length bytes → take (at + 1) (set bytes at b) ≡ take at bytes ++ (b ∷ [])
 taken-one-more bytes at b h = rw (add-one at) (take-suc-set bytes at b h)
 
+pub zeros-one-less :
+    (bytes : List ℕ) (at b : ℕ) → at < room → drop at bytes ≡ replicate (room - at) 0 → drop (at + 1) (set bytes at b) ≡ replicate (room - (at + 1)) 0
+zeros-one-less bytes at b h e =
+    let k : room - at ≡ suc (room - (at + 1)) = omega arith in
+    drop-set-lt (at + 1) bytes at b (omega arith)
+    ∙ sym (drop-drop 1 at bytes)
+    ∙ ap (drop 1) (e ∙ ap (λ (n : ℕ). replicate n 0) k)
+
 grown-then : {x y r : Text} {s u : List ℕ} {m k : ℕ} → Grown x s m y → Grown y u k r → Grown x (s ++ u) (m + k) r
 grown-then {x} {y} {r} {s} {u} g h = record {
   text = h .text ∙ ap (λ (l : List ℕ). l ++ u) (g .text) ∙ append-assoc (textOf x) s u;
   short = omega (arith, g .short, h .short);
+  zeros = λ z. h .zeros (g .zeros z);
 }
 
 grown-as : {x r : Text} {s u : List ℕ} {m k : ℕ} → Grown x s m r → s ≡ u → m ≤ k → Grown x u k r
 grown-as {x} g e l = record {
   text = g .text ∙ ap (λ (v : List ℕ). textOf x ++ v) e;
   short = omega (arith, g .short);
+  zeros = g .zeros;
 }
 
 -- ---- a number
@@ -69,16 +80,18 @@ line-grown p n h i j k l m o =
 pub record HasLines (f : ℕ → List ℕ) (p : ℕ) (x : Text) : Type 0 where
   pub text : textOf x ≡ pieces f p
   pub short : x .len ≤ longestLine * p
+  pub zeros : ZerosAfter x
 
-pub no-lines : (f : ℕ → List ℕ) (x : Text) → x .len ≡ 0 → HasLines f 0 x
+pub no-lines : (f : ℕ → List ℕ) (x : Text) → x .len ≡ 0 → ZerosAfter x → HasLines f 0 x
 unfolding pieces
-no-lines f x e = record { text = ap (λ (n : ℕ). take n (x .bytes)) e; short = omega arith }
+no-lines f x e z = record { text = ap (λ (n : ℕ). take n (x .bytes)) e; short = omega arith; zeros = z }
 
 pub one-line-more : (f : ℕ → List ℕ) (p : ℕ) (x r : Text) → HasLines f p x → Grown x (f p) longestLine r → HasLines f (p + 1) r
 unfolding pieces
 one-line-more f p x r h g = record {
   text = rw (add-one p) (g .text ∙ ap (λ (l : List ℕ). l ++ f p) (h .text));
   short = omega (arith, h .short, g .short);
+  zeros = g .zeros (h .zeros);
 }
 
 pub all-lines : (n h : ℕ → ℕ) (p : ℕ) (x : Text) → p ≤ dimensions → dimensions ≤ p → HasLines (λ q. line q (n q) (h q)) p x → textOf x ≡ linesOf n h
@@ -105,9 +118,9 @@ number-small (RuleB c) = omega arith
 number-small BadContents = omega arith
 number-small BadNumber = omega arith
 
-pub refused-text : {x y r : Text} (n m : ℕ) → n ≡ m → textOf x ≡ (114 ∷ 101 ∷ 102 ∷ 117 ∷ 115 ∷ 101 ∷ 100 ∷ space ∷ []) → Grown x (decimal n) longestNumber y → Grown y (newline ∷ []) 1 r → textOf r ≡ refusedLine m
+pub refused-text : {x y r : Text} (n m : ℕ) → n ≡ m → textOf x ≡ refusedWord → Grown x (decimal n) longestNumber y → Grown y (newline ∷ []) 1 r → textOf r ≡ refusedLine m
 unfolding refusedLine
 refused-text n m e w g h =
     h .text ∙ ap (λ (l : List ℕ). l ++ (newline ∷ [])) (g .text)
     ∙ ap (λ (l : List ℕ). (l ++ decimal n) ++ (newline ∷ [])) w
-    ∙ ap (λ (k : ℕ). 114 ∷ 101 ∷ 102 ∷ 117 ∷ 115 ∷ 101 ∷ 100 ∷ space ∷ (decimal k ++ (newline ∷ []))) e
+    ∙ ap (λ (k : ℕ). refusedWord ++ (decimal k ++ (newline ∷ []))) e

@@ -10,21 +10,22 @@ use borrow.Author.Tests.{lt-ltb, le-ltb, eq-eqb, ne-eqb, ltb-false}
 use lib.Dec.{ltb, eqb}
 use lib.ListN.{length, take, replicate, length-replicate, replicate-append-replicate}
 use lib.Seq.{take-at}
-use Rattle.bitset.specs.Bits.{wordsFor}
+use Rattle.bitset.specs.Bits.{wordsFor, fullWidth}
 use Rattle.table.specs.Kind.{capacity, width, freeMark}
 use Rattle.table.specs.Table.{cellsOf, Valid}
-use Rattle.table.specs.Numbers.{numberOf}
-use Rattle.table.specs.declared.Refusal.{Refusal}
-use Rattle.table.specs.declared.Refusal.the-variants.{BadContents}
-use Rattle.table.specs.declared.Verdict.{Verdict}
-use Rattle.table.specs.declared.Verdict.the-variants.{Accepted, Refused}
-use Rattle.rows.specs.Rows.{boundaryWords, evidenceWords}
-use Rattle.sketch.specs.Form.{contentsSize}
-use Rattle.sketch.specs.Read.{readVerdict, readLeaves, described}
+use Rattle.calls.specs.Numbers.{numberOf}
+use Rattle.calls.specs.declared.Refusal.{Refusal}
+use Rattle.calls.specs.declared.Refusal.the-variants.{BadContents}
+use Rattle.calls.specs.declared.Verdict.{Verdict}
+use Rattle.calls.specs.declared.Verdict.the-variants.{Accepted, Refused}
+use Rattle.complex.specs.Cells.{cells}
+use Rattle.rows.specs.Rows.{evidenceWords}
+use Rattle.sketch.specs.Form.{contentsSize, longest}
+use Rattle.sketch.specs.Read.{readVerdict, readLeaves, described, sizeIn}
 use Rattle.sketch.proofs.Accepted.{accepted-says}
 use Rattle.sketch.proofs.Described.{described-cells}
 use Rattle.report.specs.Lines.{refusedLine}
-use Rattle.report.specs.Report.{longest, sizeIn, noSketch, blank, fileVerdict, HoleLines, Reports}
+use Rattle.report.specs.Report.{noSketch, blank, fileVerdict, HoleLines, Reports}
 use Rattle.report.specs.Making.{Told}
 
 -- ---- the tests on a file
@@ -73,7 +74,7 @@ passes f e =
 
 -- ---- the buffers
 
-pub front-of-same : (k n a : ℕ) → k ≤ n → take k (replicate n a) ≡ replicate k a
+front-of-same : (k n a : ℕ) → k ≤ n → take k (replicate n a) ≡ replicate k a
 front-of-same k n a l =
     let e : k + (n - k) ≡ n = omega arith in
     ap (λ (m : ℕ). take k (replicate m a)) (sym e)
@@ -83,8 +84,8 @@ front-of-same k n a l =
 pub front-long : (k n a : ℕ) → k ≤ n → k ≡ length (take k (replicate n a))
 front-long k n a l = sym (ap length (front-of-same k n a l) ∙ length-replicate k a)
 
-pub words-fit : (n w : ℕ) → n ≤ capacity → w ≡ wordsFor n → n * w ≤ capacity * boundaryWords
-words-fit n w l e = let s : w ≤ boundaryWords = omega (arith, e) in omega (arith, mul-le-mul l s)
+pub words-fit : (n w : ℕ) → n ≤ capacity → w ≡ wordsFor n → n * w ≤ capacity * fullWidth
+words-fit n w l e = let s : w ≤ fullWidth = omega (arith, e) in omega (arith, mul-le-mul l s)
 
 -- the front of r free words is a blank table of n cells, and the front of s zeros has the length of evidence for it
 module _ (n r : ℕ) (few : n ≤ capacity) (enough : capacity * width ≤ r) where
@@ -95,7 +96,7 @@ module _ (n r : ℕ) (few : n ≤ capacity) (enough : capacity * width ≤ r) wh
   blank-cells =
       ap cellsOf blank-front ∙ ap (λ (k : ℕ). k / width) (length-replicate (n * width) freeMark) ∙ omega arith
 
-  pub evidence-long : (w s : ℕ) → w ≡ wordsFor n → capacity * boundaryWords ≤ s → length {A = ℕ} (take (n * w) (replicate s 0)) ≡ evidenceWords (take (n * width) (replicate r freeMark))
+  pub evidence-long : (w s : ℕ) → w ≡ wordsFor n → capacity * fullWidth ≤ s → length {A = ℕ} (take (n * w) (replicate s 0)) ≡ evidenceWords (cells (take (n * width) (replicate r freeMark)))
   evidence-long w s e room =
       let l : n * w ≤ s = omega (arith, words-fit n w few e) in
       ap length (front-of-same (n * w) s 0 l) ∙ length-replicate (n * w) 0
@@ -120,13 +121,13 @@ tells-refusal t f text r e x = record {
 
 -- an accepted file: t′ is what the reader left
 module _ (t f t′ : List ℕ) (e : readVerdict t f ≡ Accepted) (left : t′ ≡ readLeaves t f) where
-  pub left-described : t′ ≡ described (cellsOf t) f
+  left-described : t′ ≡ described (cellsOf t) f
   left-described = rw e at left
 
   pub left-valid : Valid t′
   left-valid = subst Valid (sym left-described) (accepted-says t f e .table)
 
-  pub left-words : (n : ℕ) → n ≡ evidenceWords t → n ≡ evidenceWords t′
+  pub left-words : (n : ℕ) → n ≡ evidenceWords (cells t) → n ≡ evidenceWords (cells t′)
   left-words n g =
       let c : cellsOf t ≡ cellsOf t′ = sym (ap cellsOf left-described ∙ described-cells (cellsOf t) f) in
       g ∙ ap (λ (k : ℕ). k * wordsFor k) c

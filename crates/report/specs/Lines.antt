@@ -1,11 +1,13 @@
 -- The text of a report: numbers in decimal digits, one space between, every line ended by one newline byte.
 -- A reader must believe these definitions; nothing here is proved.
+use mathlib.Core.Path.{_≡_}
 use mathlib.Core.List.{List, [], _∷_, _++_}
-use Prim.Native.Nat.{ℕ, _+_, _/_, _%_}
-use lib.ListN.{take}
+use Prim.Native.Nat.{ℕ, _+_, _-_, _/_, _%_}
+use lib.ListN.{take, drop, replicate}
 use lib.Dec.{ltb}
 use Rattle.counting.specs.Counting.{pick}
-use Rattle.sketch.specs.Form.{pieces, dimensions}
+use Rattle.sketch.specs.Form.{pieces}
+use Rattle.table.specs.Kind.{dimensions}
 use Rattle.report.specs.declared.Text.{Text}
 
 -- the byte of a digit
@@ -32,10 +34,24 @@ line p n h = decimal p ++ (space ∷ decimal n) ++ (space ∷ decimal h) ++ (new
 unfoldable pub linesOf : (ℕ → ℕ) → (ℕ → ℕ) → List ℕ
 linesOf n h = pieces (λ p. line p (n p) (h p)) dimensions
 
--- the word 'refused' and the number
-unfoldable pub refusedLine : ℕ → List ℕ
-refusedLine r = 114 ∷ 101 ∷ 102 ∷ 117 ∷ 115 ∷ 101 ∷ 100 ∷ space ∷ (decimal r ++ (newline ∷ []))
+-- the word 'refused' with the space after it, and the number
+abbrev pub refusedWord : List ℕ
+refusedWord = 114 ∷ 101 ∷ 102 ∷ 117 ∷ 115 ∷ 101 ∷ 100 ∷ space ∷ []
 
--- the bytes that a text holds
+unfoldable pub refusedLine : ℕ → List ℕ
+refusedLine r = refusedWord ++ (decimal r ++ (newline ∷ []))
+
+-- the bytes that a text has room for
+abbrev pub room : ℕ
+room = 96
+
+-- the bytes that a text holds, and those after them
 abbrev pub textOf : Text → List ℕ
 textOf x = take (x .len) (x .bytes)
+
+abbrev pub restOf : Text → List ℕ
+restOf x = drop (x .len) (x .bytes)
+
+-- every byte after the text is 0
+abbrev pub ZerosAfter : Text → Type 0
+ZerosAfter x = restOf x ≡ replicate (room - x .len) 0

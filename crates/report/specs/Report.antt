@@ -9,24 +9,16 @@ use lib.Dec.{ltb, eqb}
 use Rattle.homology.specs.Holes.{IsHoleNumber}
 use Rattle.homology.specs.Evidence.{cellsIn}
 use Rattle.counting.specs.Counting.{pick}
-use Rattle.table.specs.Kind.{capacity, width, freeMark}
-use Rattle.table.specs.Numbers.{numberOf}
-use Rattle.table.specs.declared.Refusal.{Refusal}
-use Rattle.table.specs.declared.Refusal.the-variants.{BadContents}
-use Rattle.table.specs.declared.Verdict.{Verdict}
-use Rattle.table.specs.declared.Verdict.the-variants.{Accepted, Refused}
+use Rattle.table.specs.Kind.{capacity, width, freeMark, dimensions}
+use Rattle.calls.specs.Numbers.{numberOf}
+use Rattle.calls.specs.declared.Refusal.{Refusal}
+use Rattle.calls.specs.declared.Refusal.the-variants.{BadContents}
+use Rattle.calls.specs.declared.Verdict.{Verdict}
+use Rattle.calls.specs.declared.Verdict.the-variants.{Accepted, Refused}
 use Rattle.complex.specs.Cells.{cells}
-use Rattle.sketch.specs.Form.{twoAt, contentsSize, dimensions}
-use Rattle.sketch.specs.Read.{readVerdict, described}
+use Rattle.sketch.specs.Form.{contentsSize, longest}
+use Rattle.sketch.specs.Read.{sizeIn, readVerdict, described}
 use Rattle.report.specs.Lines.{linesOf, refusedLine}
-
--- the most bytes that a sketch file has
-abbrev pub longest : ℕ
-longest = 8236
-
--- the number of cells that the file names
-abbrev pub sizeIn : List ℕ → ℕ
-sizeIn f = twoAt f 0
 
 -- too long, shorter than a table of contents, or an N outside 1 to 512
 unfoldable pub noSketch : List ℕ → Bool

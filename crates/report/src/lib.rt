@@ -5,31 +5,32 @@ ghost use Prim.Native.Nat.{ℕ, _+_, _≤_, _<_};
 ghost use lib.ListN.{length, getD};
 ghost use Rattle.table.specs.Kind.{capacity, top};
 ghost use Rattle.table.specs.Table.{Valid};
-ghost use Rattle.table.specs.Numbers.{numberOf};
+ghost use Rattle.calls.specs.Numbers.{numberOf};
+ghost use Rattle.complex.specs.Cells.{cells};
 ghost use Rattle.rows.specs.Rows.{evidenceWords};
-ghost use Rattle.sketch.specs.Form.{contentsSize};
-ghost use Rattle.report.specs.Lines.{digit, decimal, line, linesOf, refusedLine, textOf};
-ghost use Rattle.report.specs.Report.{longest, sizeIn, noSketch, HoleLines, Reports};
-ghost use Rattle.report.specs.Making.{room, longestNumber, longestLine, Grown, Told};
-use table::Refusal;
+ghost use Rattle.report.specs.Lines.{digit, decimal, line, linesOf, refusedWord, refusedLine, room, textOf, ZerosAfter};
+ghost use Rattle.report.specs.Report.{noSketch, HoleLines, Reports};
+ghost use Rattle.report.specs.Making.{longestNumber, longestLine, Grown, Told};
+use calls::Refusal;
+use calls::Verdict;
 use table::Table;
-use table::Verdict;
 
-// The most bytes of a sketch file, and the bytes of its table of contents.
-const LONGEST: usize = 8236;
+// The bytes that a text has room for: the seven lines take no more.
+pub const ROOM: usize = 96;
 
-const CONTENTS: usize = 44;
+// The bytes of the word `refused` with the space after it.
+const WORD: usize = 8;
 
-// A short text: the first `len` bytes.
+// A short text: the first `len` bytes, and 0 in every byte after them.
 pub struct Text {
-    pub bytes: [u8; 96],
+    pub bytes: [u8; ROOM],
     pub len: usize,
 }
 
 // The numbers of the code are those of the definitions.
 fn same_numbers()
-    ensures { λ _. do ⌜ (← ⟦LONGEST⟧ .entry) ≡ longest ⌝ }
-    ensures { λ _. do ⌜ (← ⟦CONTENTS⟧ .entry) ≡ contentsSize ⌝ }
+    ensures { λ _. do ⌜ (← ⟦ROOM⟧ .entry) ≡ room ⌝ }
+    ensures { λ _. do ⌜ (← ⟦WORD⟧ .entry) ≡ length refusedWord ⌝ }
 {}
 
 // One byte more.
@@ -82,18 +83,18 @@ fn push_line(x: Text, p: u16, n: u16, h: u16) -> Text
 }
 
 // The seven lines.
-fn lines(cells: [u16; 7], holes: [u16; 7]) -> Text
+fn lines(cells: [u16; Table::DIMENSIONS], holes: [u16; Table::DIMENSIONS]) -> Text
     requires { ⌜ ((p : ℕ) → p ≤ top → getD cells p 0 ≤ capacity) ⌝ }
     requires { ⌜ ((p : ℕ) → p ≤ top → getD holes p 0 ≤ capacity) ⌝ }
     ensures { λ r. ⌜ textOf r ≡ linesOf (λ p. getD cells p 0) (λ p. getD holes p 0) ⌝ }
-    ensures { λ r. ⌜ r .len < room ⌝ }
+    ensures { λ r. ⌜ (r .len < room) × ZerosAfter r ⌝ }
 {
     let mut r = Text {
-        bytes: [0; 96],
+        bytes: [0; ROOM],
         len: 0,
     };
     let mut p = 0;
-    while p < 7 {
+    while p < Table::DIMENSIONS {
         let q = push_line(r, p as u16, cells[p], holes[p]);
         r = q;
         p += 1;
@@ -104,9 +105,9 @@ fn lines(cells: [u16; 7], holes: [u16; 7]) -> Text
 // The word of a refusal and its number.
 fn refused(why: Refusal) -> Text
     ensures { λ r. ⌜ textOf r ≡ refusedLine (numberOf why) ⌝ }
-    ensures { λ r. ⌜ r .len < room ⌝ }
+    ensures { λ r. ⌜ (r .len < room) × ZerosAfter r ⌝ }
 {
-    let mut word = [0; 96];
+    let mut word = [0; ROOM];
     word[0] = b'r';
     word[1] = b'e';
     word[2] = b'f';
@@ -115,10 +116,10 @@ fn refused(why: Refusal) -> Text
     word[5] = b'e';
     word[6] = b'd';
     word[7] = b' ';
-    let number = table::number(why);
+    let number = calls::number(why);
     let x = Text {
         bytes: word,
-        len: 8,
+        len: WORD,
     };
     push(push_number(x, number as u16), b'\n')
 }
@@ -126,9 +127,9 @@ fn refused(why: Refusal) -> Text
 // The lines of a valid table: evidence is made for it, checked, and counted.
 fn count_holes(t: &[u16], evidence: &mut [u64]) -> Text
     requires { ⌜ Valid (now t) ⌝ }
-    requires { ⌜ length (now evidence) ≡ evidenceWords (now t) ⌝ }
+    requires { ⌜ length (now evidence) ≡ evidenceWords (cells (now t)) ⌝ }
     ensures { λ r. ⌜ HoleLines (now (t .entry)) (textOf r) ⌝ }
-    ensures { λ r. ⌜ r .len < room ⌝ }
+    ensures { λ r. ⌜ (r .len < room) × ZerosAfter r ⌝ }
 {
     reducer::reduce(t, evidence);
     let checked = checker::check(t, evidence);
@@ -139,9 +140,9 @@ fn count_holes(t: &[u16], evidence: &mut [u64]) -> Text
 
 // Reads the file into the table, and tells what came of it.
 fn tell(file: &[u8], t: &mut [u16], evidence: &mut [u64]) -> Text
-    requires { ⌜ length (now evidence) ≡ evidenceWords (now t) ⌝ }
+    requires { ⌜ length (now evidence) ≡ evidenceWords (cells (now t)) ⌝ }
     ensures { λ r. ⌜ Told (now (t .entry)) (now (file .entry)) (textOf r) ⌝ }
-    ensures { λ r. ⌜ r .len < room ⌝ }
+    ensures { λ r. ⌜ (r .len < room) × ZerosAfter r ⌝ }
 {
     let verdict = reader::read(t, file);
     match verdict {
@@ -150,25 +151,17 @@ fn tell(file: &[u8], t: &mut [u16], evidence: &mut [u64]) -> Text
     }
 }
 
-// The number of cells that the file names.
-fn size_in(file: &[u8]) -> usize
-    requires { ⌜ contentsSize ≤ length (now file) ⌝ }
-    ensures { λ r. ⌜ r ≡ sizeIn (now (file .entry)) ⌝ }
-{
-    file[0] as usize + file[1] as usize * 256
-}
-
 // Whether the file is too long, or shorter than a table of contents, or names no table's number of cells.
 fn no_sketch(file: &[u8]) -> bool
     ensures { λ r. ⌜ r ≡ noSketch (now (file .entry)) ⌝ }
 {
-    if file.len() > LONGEST {
+    if file.len() > sketch::LONGEST {
         return true;
     }
-    if file.len() < CONTENTS {
+    if file.len() < sketch::CONTENTS {
         return true;
     }
-    let n = size_in(file);
+    let n = sketch::size_in(file);
     if n == 0 {
         return true;
     }
@@ -178,18 +171,18 @@ fn no_sketch(file: &[u8]) -> bool
     false
 }
 
-// What is said of a file. The text stays inside its bytes, so that a caller can lend them.
+// What is said of a file. The text stays inside its bytes, so that a caller can lend them, and no byte stands after it.
 pub fn report(file: &[u8]) -> Text
     ensures { λ r. ⌜ Reports (now (file .entry)) (textOf r) ⌝ }
-    ensures { λ r. ⌜ r .len < room ⌝ }
+    ensures { λ r. ⌜ (r .len < room) × ZerosAfter r ⌝ }
 {
     if no_sketch(file) {
         return refused(Refusal::BadContents);
     }
-    let n = size_in(file);
+    let n = sketch::size_in(file);
     let words = n * Table::WORDS;
     let row_words = n * bitset::words_for(n);
     let mut table = [Table::FREE; Table::CAPACITY * Table::WORDS];
-    let mut evidence = [0; Table::CAPACITY * 8];
+    let mut evidence = [0; Table::CAPACITY * bitset::FULL];
     tell(file, &mut table[..words], &mut evidence[..row_words])
 }

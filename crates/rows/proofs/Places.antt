@@ -1,52 +1,49 @@
 -- The face places of one cell, added one by one into a set: what the set is after the first j of them.
 -- What carries it: one toggle adds one term of the parity by which a face counts. Assumes nothing.
-use mathlib.Core.Path.{_≡_, refl, sym, ap, ap₂, _∙_}
-use mathlib.Core.Bool.{Bool, _&&_}
+use mathlib.Core.Path.{_≡_, sym, ap, ap₂, _∙_}
+use mathlib.Core.Bool.{Bool, true, _&&_}
 use mathlib.Core.List.{List}
-use Prim.Native.Nat.{ℕ, zero, suc, _+_, _/_, _%_, _<_}
+use Prim.Native.Nat.{ℕ, _+_, _/_, _<_}
 use native.Mathlib.Numerals.{add-one}
 use native.Mathlib.Omega.{arith}
-use borrow.Author.Tests.{eq-eqb, le-leb}
 use lib.Dec.{eqb}
-use lib.ListN.{length, getD}
+use lib.ListN.{length}
 use Rattle.homology.specs.Cells.{odd, _⊻_}
 use Rattle.homology.proofs.Marks.{⊻-off, ⊻-assoc}
-use Rattle.bitset.specs.Bits.{bits, member, toggled}
-use Rattle.table.specs.Kind.{capacity, faces, width, used}
-use Rattle.table.specs.Table.{cellsOf, dim, face, facesOf, Live, Sized, sizedCells, Valid}
-use Rattle.complex.specs.Cells.{oddFace}
-use Rattle.table.proofs.Records.{live-says}
-use Rattle.rows.specs.Rows.{FacesAdded, boundaryWords}
+use Rattle.bitset.specs.Bits.{bits, member, toggled, fullWidth}
+use Rattle.complex.specs.View.{View, Frame, viewed, oddFace}
+use Rattle.rows.specs.Rows.{FacesAdded}
 use Rattle.rows.proofs.Members.{member-toggled}
 
--- a used face has its word in a set of the largest table's width
-pub face-fits : (t : List ℕ) → Valid t → (c j f : ℕ) → Live t c → j < used (dim t c) → f ≡ face t c j → f / bits < boundaryWords
-face-fits t v c j f h l e = omega (arith, v .face-live c j h l .inside, v .sized .room)
-
 -- ws′ is ws after the first j face places of cell c
-pub record PlacesAdded (t : List ℕ) (c j : ℕ) (ws ws′ : List ℕ) : Type 0 where
-  pub same : (s : ℕ) → member ws′ s ≡ member ws s ⊻ odd j (λ l. eqb (face t c l) s)
+pub record PlacesAdded (v : View) (c j : ℕ) (ws ws′ : List ℕ) : Type 0 where
+  pub same : (s : ℕ) → member ws′ s ≡ member ws s ⊻ odd j (λ l. eqb (v .face c l) s)
 
-pub no-places : (t : List ℕ) (c : ℕ) (ws : List ℕ) → PlacesAdded t c 0 ws ws
-unfolding odd
-no-places t c ws = record { same = λ s. sym (⊻-off (member ws s)) }
+module _ (v : View) (c : ℕ) where
+  -- a face has its word in a set of the largest table's width
+  pub face-fits : Frame v → (j f : ℕ) → v .live c ≡ true → j < v .places c → f ≡ v .face c j → f / bits < fullWidth
+  face-fits frame j f living l e = omega (arith, frame .inside c j living l, frame .room)
 
-pub one-place : (t : List ℕ) (c j f : ℕ) (ws ws′ ws″ : List ℕ) → f ≡ face t c j → f / bits < length ws′ → ws″ ≡ toggled ws′ f → PlacesAdded t c j ws ws′ → PlacesAdded t c (j + 1) ws ws″
-unfolding odd
-one-place t c j f ws ws′ ws″ e h g p = record {
-  same = λ s.
-      ap (λ (l : List ℕ). member l s) g
-      ∙ member-toggled ws′ f h s
-      ∙ ap₂ (λ (a b : Bool). a ⊻ b) (p .same s) (ap (λ (u : ℕ). eqb u s) e)
-      ∙ ⊻-assoc (member ws s) (odd j (λ l. eqb (face t c l) s)) (eqb (face t c j) s)
-      ∙ ap (λ (i : ℕ). member ws s ⊻ odd i (λ l. eqb (face t c l) s)) (sym (add-one j));
-}
+  pub no-places : (ws : List ℕ) → PlacesAdded v c 0 ws ws
+  unfolding odd
+  no-places ws = record { same = λ s. sym (⊻-off (member ws s)) }
 
-pub all-places : (t : List ℕ) (c j : ℕ) (ws ws′ : List ℕ) → Live t c → j ≡ used (dim t c) → length ws′ ≡ length ws → PlacesAdded t c j ws ws′ → FacesAdded t c ws ws′
-unfolding oddFace
-all-places t c j ws ws′ h e long p = record {
-  long = long;
-  same = λ s. p .same s
-      ∙ ap (λ (i : ℕ). member ws s ⊻ odd i (λ l. eqb (face t c l) s)) e
-      ∙ ap (λ (b : Bool). member ws s ⊻ (b && odd (used (dim t c)) (λ l. eqb (face t c l) s))) (sym (live-says t c h));
-}
+  pub one-place : (j f : ℕ) (ws ws′ ws″ : List ℕ) → f ≡ v .face c j → f / bits < length ws′ → ws″ ≡ toggled ws′ f → PlacesAdded v c j ws ws′ → PlacesAdded v c (j + 1) ws ws″
+  unfolding odd
+  one-place j f ws ws′ ws″ e h g p = record {
+    same = λ s.
+        ap (λ (l : List ℕ). member l s) g
+        ∙ member-toggled ws′ f h s
+        ∙ ap₂ (λ (a b : Bool). a ⊻ b) (p .same s) (ap (λ (u : ℕ). eqb u s) e)
+        ∙ ⊻-assoc (member ws s) (odd j (λ l. eqb (v .face c l) s)) (eqb (v .face c j) s)
+        ∙ ap (λ (i : ℕ). member ws s ⊻ odd i (λ l. eqb (v .face c l) s)) (sym (add-one j));
+  }
+
+  pub all-places : (j : ℕ) (ws ws′ : List ℕ) → v .live c ≡ true → j ≡ v .places c → length ws′ ≡ length ws → PlacesAdded v c j ws ws′ → FacesAdded (viewed v) c ws ws′
+  unfolding oddFace
+  all-places j ws ws′ living e long p = record {
+    long = long;
+    same = λ s. p .same s
+        ∙ ap (λ (i : ℕ). member ws s ⊻ odd i (λ l. eqb (v .face c l) s)) e
+        ∙ ap (λ (b : Bool). member ws s ⊻ (b && odd (v .places c) (λ l. eqb (v .face c l) s))) (sym living);
+  }

@@ -12,14 +12,13 @@ use lib.Dec.{eqb}
 use lib.ListN.{length, getD, take, replicate, length-take, List·getD-eq-default}
 use lib.Seq.{getD-take, take-all}
 use Rattle.counting.proofs.Cases.{and-left}
-use Rattle.homology.specs.Cells.{_⊻_}
+use Rattle.homology.specs.Cells.{Cells, _⊻_}
 use Rattle.homology.specs.Holes.{sum, boundary}
 use Rattle.homology.proofs.Marks.{by-order, ⊻-off, off-⊻}
 use Rattle.homology.proofs.Chains.{boundary-sum}
-use Rattle.bitset.specs.Bits.{bits, digit, mark, member}
+use Rattle.bitset.specs.Bits.{bits, digit, mark, member, fullWidth}
 use Rattle.bitset.proofs.Marks.{mark-of-zero-word, false-member}
-use Rattle.complex.specs.Cells.{cells}
-use Rattle.rows.specs.Rows.{boundaryWords, rowOf, rows, SetIs, RowLive}
+use Rattle.rows.specs.Rows.{rowOf, rows, SetIs, RowLive}
 use Rattle.rows.specs.Word.{wordCells, WordLive, WordAdded}
 use Rattle.rows.proofs.Members.{member-zeros}
 use Rattle.rows.proofs.Boundaries.{boundary-cong, boundary-of-empty}
@@ -41,7 +40,7 @@ member-of-word xs w s e =
     ∙ ap (λ (b : Bool). b && eqb (digit (getD xs w 0) (s % bits)) 1) (sym (eq-eqb (s / bits) w e))
 
 -- one word more
-pub one-word-more : (xs : List ℕ) (w s : ℕ) → member (take (suc w) xs) s ≡ member (take w xs) s ⊻ wordCells w (getD xs w 0) s
+one-word-more : (xs : List ℕ) (w s : ℕ) → member (take (suc w) xs) s ≡ member (take w xs) s ⊻ wordCells w (getD xs w 0) s
 one-word-more xs w s = by-order (s / bits) w
     (λ l. member-within xs (suc w) s (omega arith)
     ∙ sym (⊻-off (member xs s))
@@ -54,11 +53,11 @@ one-word-more xs w s = by-order (s / bits) w
     ∙ sym (ap₂ _⊻_ (member-beyond xs w s (omega arith)) (word-elsewhere w (getD xs w 0) s (λ e. omega arith))))
 
 -- the cells of a word of a row of live cells are live
-pub word-of-live-row : (t ev : List ℕ) (c w v : ℕ) → RowLive t ev c → v ≡ getD (rowOf t ev c) w 0 → WordLive t w v
+pub word-of-live-row : (K : Cells) (ev : List ℕ) (c w v : ℕ) → RowLive K ev c → v ≡ getD (rowOf K ev c) w 0 → WordLive K w v
 unfolding rows wordCells
-word-of-live-row t ev c w v living e = record {
+word-of-live-row K ev c w v living e = record {
   each = λ s g.
-      living .each s (member-of-word (rowOf t ev c) w s (eqb-true (s / bits) w (and-left (eqb (s / bits) w) (eqb (digit v (s % bits)) 1) g))
+      living .each s (member-of-word (rowOf K ev c) w s (eqb-true (s / bits) w (and-left (eqb (s / bits) w) (eqb (digit v (s % bits)) 1) g))
       ∙ ap (λ (u : ℕ). wordCells w u s) (sym e)
       ∙ g);
 }
@@ -66,29 +65,29 @@ word-of-live-row t ev c w v living e = record {
 -- ---- their boundary
 
 -- b is the boundary of the first w words of xs
-pub record WordsAdded (t xs : List ℕ) (w : ℕ) (b : List ℕ) : Type 0 where
-  pub same : (s : ℕ) → member b s ≡ boundary (cells t) (member (take w xs)) s
+pub record WordsAdded (K : Cells) (xs : List ℕ) (w : ℕ) (b : List ℕ) : Type 0 where
+  pub same : (s : ℕ) → member b s ≡ boundary K (member (take w xs)) s
 
-pub no-words : (t xs : List ℕ) (n : ℕ) → WordsAdded t xs 0 (replicate n 0)
-no-words t xs n = record {
+pub no-words : (K : Cells) (xs : List ℕ) (n : ℕ) → WordsAdded K xs 0 (replicate n 0)
+no-words K xs n = record {
   same = λ s.
-      member-zeros n s ∙ sym (boundary-of-empty (cells t) (member (take 0 xs)) (λ c. member-beyond xs 0 c (omega arith)) s);
+      member-zeros n s ∙ sym (boundary-of-empty K (member (take 0 xs)) (λ c. member-beyond xs 0 c (omega arith)) s);
 }
 
-pub one-word : (t xs : List ℕ) (w v : ℕ) (b b′ : List ℕ) → v ≡ getD xs w 0 → WordAdded t w v b b′ → WordsAdded t xs w b → WordsAdded t xs (w + 1) b′
-one-word t xs w v b b′ e added words = record {
+pub one-word : (K : Cells) (xs : List ℕ) (w v : ℕ) (b b′ : List ℕ) → v ≡ getD xs w 0 → WordAdded K w v b b′ → WordsAdded K xs w b → WordsAdded K xs (w + 1) b′
+one-word K xs w v b b′ e added words = record {
   same = λ s.
       added .same s
-      ∙ ap₂ (λ (a : Bool) (u : ℕ). a ⊻ boundary (cells t) (wordCells w u) s) (words .same s) e
-      ∙ sym (boundary-sum (cells t) (member (take w xs)) (wordCells w (getD xs w 0)) s)
-      ∙ boundary-cong (cells t) (sum (member (take w xs)) (wordCells w (getD xs w 0))) (member (take (suc w) xs)) (λ c. sym (one-word-more xs w c)) s
-      ∙ ap (λ (i : ℕ). boundary (cells t) (member (take i xs)) s) (sym (add-one w));
+      ∙ ap₂ (λ (a : Bool) (u : ℕ). a ⊻ boundary K (wordCells w u) s) (words .same s) e
+      ∙ sym (boundary-sum K (member (take w xs)) (wordCells w (getD xs w 0)) s)
+      ∙ boundary-cong K (sum (member (take w xs)) (wordCells w (getD xs w 0))) (member (take (suc w) xs)) (λ c. sym (one-word-more xs w c)) s
+      ∙ ap (λ (i : ℕ). boundary K (member (take i xs)) s) (sym (add-one w));
 }
 
-pub all-words : (t ev : List ℕ) (c w : ℕ) (b : List ℕ) → length b ≡ boundaryWords → ((k : ℕ) → getD b k 0 < 2 ^ 64) → length (rowOf t ev c) ≤ w → WordsAdded t (rowOf t ev c) w b → SetIs b (boundary (cells t) (rows t ev c))
+pub all-words : (K : Cells) (ev : List ℕ) (c w : ℕ) (b : List ℕ) → length b ≡ fullWidth → ((k : ℕ) → getD b k 0 < 2 ^ 64) → length (rowOf K ev c) ≤ w → WordsAdded K (rowOf K ev c) w b → SetIs b (boundary K (rows K ev c))
 unfolding rows
-all-words t ev c w b long small end words = record {
+all-words K ev c w b long small end words = record {
   long = long;
   small = small;
-  same = λ s. words .same s ∙ ap (λ (xs : List ℕ). boundary (cells t) (member xs) s) (take-all w (rowOf t ev c) end);
+  same = λ s. words .same s ∙ ap (λ (xs : List ℕ). boundary K (member xs) s) (take-all w (rowOf K ev c) end);
 }

@@ -1,1 +1,2 @@
-pub mod FromSketch
+pub mod Sessions
+pub mod Files

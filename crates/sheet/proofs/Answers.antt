@@ -9,13 +9,13 @@ use native.Mathlib.Omega.{arith}
 use lib.ListN.{length}
 use Rattle.counting.specs.Counting.{pick}
 use Rattle.table.specs.Kind.{freeMark}
-use Rattle.table.proofs.Words.{same-dim}
+use Rattle.table.proofs.Words.{one-dim}
 use Rattle.table.specs.Table.{dim, Sized, Live, Valid}
-use Rattle.table.specs.Audit.{auditGrounds}
-use Rattle.table.specs.Calls.{verdict, onVerdict}
-use Rattle.table.specs.declared.Refusal.{Refusal}
-use Rattle.table.specs.declared.Verdict.{Verdict}
-use Rattle.table.specs.declared.Verdict.the-variants.{Accepted, Refused}
+use Rattle.audit.specs.Audit.{auditGrounds}
+use Rattle.calls.specs.Calls.{verdict, onVerdict}
+use Rattle.calls.specs.declared.Refusal.{Refusal}
+use Rattle.calls.specs.declared.Verdict.{Verdict}
+use Rattle.calls.specs.declared.Verdict.the-variants.{Accepted, Refused}
 use Rattle.audit.specs.Empty.{emptied}
 use Rattle.audit.proofs.Valid.{audit-accepts-iff-valid}
 use Rattle.audit.proofs.Empties.{emptied-is-valid}
@@ -48,7 +48,7 @@ says-yes-iff t = (
 -- an empty table says no
 emptied-bare : (t : List ℕ) (c : ℕ) → Live (emptied t) c → ⊥
 unfolding emptied
-emptied-bare t c v = omega (arith, same-dim (length t) freeMark c (v .inside), v .low)
+emptied-bare t c v = omega (arith, one-dim (length t) freeMark c (v .inside), v .low)
 
 pub empty-says-no : (t : List ℕ) → Sized t → sheetAnswer (emptied t) ≡ No
 empty-says-no t s =

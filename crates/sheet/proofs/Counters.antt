@@ -15,7 +15,7 @@ use Rattle.counting.specs.Counting.{howMany, someHas, pick}
 use Rattle.table.specs.Kind.{capacity, used}
 use Rattle.table.specs.Table.{cellsOf, dim, face, Valid}
 use Rattle.counting.proofs.Cases.{same-or-other}
-use Rattle.audit.proofs.Places.{used-says}
+use Rattle.table.proofs.Places.{used-says}
 use Rattle.sheet.specs.Sheet.{hasFace}
 use Rattle.sheet.specs.Sides.{namedBelow, sidesBelow, Counted}
 

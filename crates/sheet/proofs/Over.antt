@@ -11,7 +11,7 @@ use Rattle.counting.proofs.Counting.{someHas-at, someHas-one}
 use Rattle.table.specs.Kind.{used}
 use Rattle.table.specs.Table.{cellsOf, dim, face, Live, live, Valid}
 use Rattle.table.proofs.Records.{live-says}
-use Rattle.audit.proofs.Places.{used-says}
+use Rattle.table.proofs.Places.{used-says}
 use Rattle.sheet.specs.Sheet.{hasFace, covered}
 
 module _ (t : List ℕ) where

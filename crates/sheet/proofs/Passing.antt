@@ -10,13 +10,12 @@ use native.Mathlib.Omega.{arith}
 use borrow.Author.Tests.{eq-eqb, ne-eqb, le-leb, eqb-true, eqb-false, leb-true, lt-ltb, le-ltb, not-true, not-false}
 use lib.ListN.{getD}
 use lib.Dec.{eqb, leb, ltb}
-use Rattle.counting.specs.Counting.{someHas, pick}
+use Rattle.counting.specs.Counting.{someHas, pick, all}
 use Rattle.table.specs.Kind.{top}
 use Rattle.table.specs.Table.{cellsOf, dim, Live, live, Valid}
-use Rattle.table.specs.Audit.{all}
-use Rattle.audit.proofs.Scans.{or-else, all-true, all-says}
+use Rattle.counting.proofs.Tests.{or-else, all-true, all-says}
 use Rattle.counting.proofs.Cases.{below-or-not, and-both, not-true-false}
-use Rattle.sheet.specs.Sheet.{topDim, isSheet}
+use Rattle.sheet.specs.Sheet.{largestDim, isSheet}
 use Rattle.sheet.specs.Sides.{levelsBelow, sidesBelow, Counted, passes, allPass}
 use Rattle.sheet.proofs.Dimensions.{levels-are}
 use Rattle.sheet.proofs.Sheets.{Tests, sheet-tests, tests-sheet, or-not, cases-or}
@@ -60,7 +59,7 @@ same-truth false true f g = g refl
 same-truth false false f g = refl
 
 -- Counters of a whole table, and its levels.
-module _ (t k : List ℕ) (l : ℕ) (valid : Valid t) (counted : Counted t k (cellsOf t)) (living : someHas (live t) (cellsOf t) ≡ true) (levels : l ≡ suc (topDim t)) where
+module _ (t k : List ℕ) (l : ℕ) (valid : Valid t) (counted : Counted t k (cellsOf t)) (living : someHas (live t) (cellsOf t) ≡ true) (levels : l ≡ suc (largestDim t)) where
   abbrev passesAt : ℕ → Bool
   passesAt c = passes (dim t c) l (getD k c 0)
 
@@ -77,7 +76,7 @@ module _ (t k : List ℕ) (l : ℕ) (valid : Valid t) (counted : Counted t k (ce
         pairs = λ u v i.
             ⊎-elim
             (λ q. absurd (omega (arith, levels)))
-            (λ w. omega (arith, w .1 (omega (arith, levels)), counted .each u (v .inside), wings-are-sides t valid (topDim t) u (sym i)))
+            (λ w. omega (arith, w .1 (omega (arith, levels)), counted .each u (v .inside), wings-are-sides t valid (largestDim t) u (sym i)))
             (at u v);
       }
 
@@ -89,7 +88,7 @@ module _ (t k : List ℕ) (l : ℕ) (valid : Valid t) (counted : Counted t k (ce
       let k-is : getD k c 0 ≡ sidesBelow t c (cellsOf t) = counted .each c h in
       ⊎-elim
       (λ i. inl (omega (arith, levels)))
-      (λ b. inr (omega (arith, covered-sides t c b), λ q. omega (arith, s .pairs c v (omega (arith, levels)), wings-are-sides t valid (topDim t) c (omega (arith, levels)))))
+      (λ b. inr (omega (arith, covered-sides t c b), λ q. omega (arith, s .pairs c v (omega (arith, levels)), wings-are-sides t valid (largestDim t) c (omega (arith, levels)))))
       (s .over c v))
 
   passes-is-sheet : allPass t l k ≡ isSheet t
@@ -109,15 +108,15 @@ some-level true m e = (refl, refl)
 some-level false m e = absurd (e refl)
 
 pub no-levels-no : (t : List ℕ) (l : ℕ) → l ≡ levelsBelow t (cellsOf t) → l ≡ 0 → isSheet t ≡ false
-unfolding topDim
+unfolding largestDim
 no-levels-no t l e z =
-    let b = no-level (someHas (live t) (cellsOf t)) (topDim t) (sym (levels-are t (cellsOf t)) ∙ sym e ∙ z) in
+    let b = no-level (someHas (live t) (cellsOf t)) (largestDim t) (sym (levels-are t (cellsOf t)) ∙ sym e ∙ z) in
     not-true-false (isSheet t) (λ i. false≢true (sym b ∙ sheet-tests t i .living))
 
 pub sheet-by-counters : (t k : List ℕ) (l : ℕ) → Valid t → Counted t k (cellsOf t) → l ≡ levelsBelow t (cellsOf t) → (l ≡ 0 → ⊥) → allPass t l k ≡ isSheet t
-unfolding topDim
+unfolding largestDim
 sheet-by-counters t k l v h e z =
-    let b = some-level (someHas (live t) (cellsOf t)) (topDim t) (λ q. z (e ∙ levels-are t (cellsOf t) ∙ q)) in
+    let b = some-level (someHas (live t) (cellsOf t)) (largestDim t) (λ q. z (e ∙ levels-are t (cellsOf t) ∙ q)) in
     passes-is-sheet t k l v h (b .0) (e ∙ levels-are t (cellsOf t) ∙ b .1)
 
 -- the pass over the cells: at the start, one turn more, the turn at which it stops, and the end

@@ -9,22 +9,21 @@ use Prim.Native.Nat.{ℕ, zero, suc, _+_, _-_, _≤_}
 use native.Mathlib.Omega.{arith}
 use borrow.Author.Tests.{eq-eqb, ne-eqb, le-leb, eqb-true, leb-true}
 use lib.Dec.{eqb, leb}
-use Rattle.counting.specs.Counting.{someHas}
+use Rattle.counting.specs.Counting.{someHas, all}
 use Rattle.counting.proofs.Counting.{someHas-at}
 use Rattle.table.specs.Table.{cellsOf, dim, face, Live, live, Valid}
-use Rattle.table.specs.Audit.{all}
-use Rattle.audit.proofs.Scans.{or-else, all-true, all-says}
+use Rattle.counting.proofs.Tests.{or-else, all-true, all-says}
 use Rattle.counting.proofs.Cases.{same-or-not, and-both, and-left, and-right, not-true-false}
 use Rattle.table.proofs.Records.{live-says, live-true}
-use Rattle.sheet.specs.Sheet.{Reached, itself, through, wings, IsSheet, topDim, covered, isSheet}
+use Rattle.sheet.specs.Sheet.{Reached, itself, through, wings, IsSheet, largestDim, covered, isSheet}
 use Rattle.sheet.proofs.Dimensions.{largest-bounds, largest-attained}
 use Rattle.sheet.proofs.Over.{covered-over, over-covered, over-dim}
 
 -- What the three tests of the call say.
 pub record Tests (t : List ℕ) : Type 0 where
   pub living : someHas (live t) (cellsOf t) ≡ true
-  pub over : (c : ℕ) → Live t c → (dim t c ≡ topDim t) ⊎ (covered t c ≡ true)
-  pub pairs : (u : ℕ) → Live t u → suc (dim t u) ≡ topDim t → wings t (topDim t) u ≤ 2
+  pub over : (c : ℕ) → Live t c → (dim t c ≡ largestDim t) ⊎ (covered t c ≡ true)
+  pub pairs : (u : ℕ) → Live t u → suc (dim t u) ≡ largestDim t → wings t (largestDim t) u ≤ 2
 
 pub or-not : (a b : Bool) → (a ≡ true → b ≡ true) → (not a || b) ≡ true
 or-not true b h = h refl
@@ -35,41 +34,41 @@ cases-or a b = ⊎-elim (λ e. rw e) (λ e. rw e (or-true a))
 
 module _ (t : List ℕ) where
   abbrev overAt : ℕ → Bool
-  overAt c = not (live t c) || (eqb (dim t c) (topDim t) || covered t c)
+  overAt c = not (live t c) || (eqb (dim t c) (largestDim t) || covered t c)
 
   abbrev isBelow : ℕ → Bool
-  isBelow u = live t u && eqb (suc (dim t u)) (topDim t)
+  isBelow u = live t u && eqb (suc (dim t u)) (largestDim t)
 
   abbrev pairAt : ℕ → Bool
-  pairAt u = not (isBelow u) || leb (wings t (topDim t) u) 2
+  pairAt u = not (isBelow u) || leb (wings t (largestDim t) u) 2
 
   abbrev someLive : Bool
   someLive = someHas (live t) (cellsOf t)
 
-  over-true : (c : ℕ) → overAt c ≡ true → Live t c → (dim t c ≡ topDim t) ⊎ (covered t c ≡ true)
+  over-true : (c : ℕ) → overAt c ≡ true → Live t c → (dim t c ≡ largestDim t) ⊎ (covered t c ≡ true)
   over-true c e v =
-      let h = or-else (not (live t c)) (eqb (dim t c) (topDim t) || covered t c) e (ap not (live-says t c v)) in
-      ⊎-elim inl (λ i. inr (or-else (eqb (dim t c) (topDim t)) (covered t c) h (ne-eqb (dim t c) (topDim t) i)))
-      (same-or-not (dim t c) (topDim t))
+      let h = or-else (not (live t c)) (eqb (dim t c) (largestDim t) || covered t c) e (ap not (live-says t c v)) in
+      ⊎-elim inl (λ i. inr (or-else (eqb (dim t c) (largestDim t)) (covered t c) h (ne-eqb (dim t c) (largestDim t) i)))
+      (same-or-not (dim t c) (largestDim t))
 
-  over-says : (c : ℕ) → (Live t c → (dim t c ≡ topDim t) ⊎ (covered t c ≡ true)) → overAt c ≡ true
+  over-says : (c : ℕ) → (Live t c → (dim t c ≡ largestDim t) ⊎ (covered t c ≡ true)) → overAt c ≡ true
   over-says c h =
-      or-not (live t c) (eqb (dim t c) (topDim t) || covered t c)
-      (λ e. cases-or (eqb (dim t c) (topDim t)) (covered t c)
-      (⊎-elim (λ i. inl (eq-eqb (dim t c) (topDim t) i)) inr (h (live-true t c e))))
+      or-not (live t c) (eqb (dim t c) (largestDim t) || covered t c)
+      (λ e. cases-or (eqb (dim t c) (largestDim t)) (covered t c)
+      (⊎-elim (λ i. inl (eq-eqb (dim t c) (largestDim t) i)) inr (h (live-true t c e))))
 
-  pair-true : (u : ℕ) → pairAt u ≡ true → Live t u → suc (dim t u) ≡ topDim t → wings t (topDim t) u ≤ 2
+  pair-true : (u : ℕ) → pairAt u ≡ true → Live t u → suc (dim t u) ≡ largestDim t → wings t (largestDim t) u ≤ 2
   pair-true u e v i =
-      leb-true (wings t (topDim t) u) 2
-      (or-else (not (isBelow u)) (leb (wings t (topDim t) u) 2) e
-      (ap not (and-both (live t u) (eqb (suc (dim t u)) (topDim t)) (live-says t u v) (eq-eqb (suc (dim t u)) (topDim t) i))))
+      leb-true (wings t (largestDim t) u) 2
+      (or-else (not (isBelow u)) (leb (wings t (largestDim t) u) 2) e
+      (ap not (and-both (live t u) (eqb (suc (dim t u)) (largestDim t)) (live-says t u v) (eq-eqb (suc (dim t u)) (largestDim t) i))))
 
-  pair-says : (u : ℕ) → (Live t u → suc (dim t u) ≡ topDim t → wings t (topDim t) u ≤ 2) → pairAt u ≡ true
+  pair-says : (u : ℕ) → (Live t u → suc (dim t u) ≡ largestDim t → wings t (largestDim t) u ≤ 2) → pairAt u ≡ true
   pair-says u h =
-      or-not (isBelow u) (leb (wings t (topDim t) u) 2)
-      (λ e. le-leb (wings t (topDim t) u) 2
-      (h (live-true t u (and-left (live t u) (eqb (suc (dim t u)) (topDim t)) e))
-      (eqb-true (suc (dim t u)) (topDim t) (and-right (live t u) (eqb (suc (dim t u)) (topDim t)) e))))
+      or-not (isBelow u) (leb (wings t (largestDim t) u) 2)
+      (λ e. le-leb (wings t (largestDim t) u) 2
+      (h (live-true t u (and-left (live t u) (eqb (suc (dim t u)) (largestDim t)) e))
+      (eqb-true (suc (dim t u)) (largestDim t) (and-right (live t u) (eqb (suc (dim t u)) (largestDim t)) e))))
 
   pub sheet-tests : isSheet t ≡ true → Tests t
   unfolding isSheet
@@ -90,14 +89,14 @@ module _ (t : List ℕ) where
       (all-says pairAt (cellsOf t) (λ u h. pair-says u (s .pairs u))))
 
   -- no live cell exceeds the largest dimension
-  top-bounds : (c : ℕ) → Live t c → dim t c ≤ topDim t
-  unfolding topDim
-  top-bounds c v = largest-bounds t (cellsOf t) c (v .inside) (live-says t c v)
+  no-larger : (c : ℕ) → Live t c → dim t c ≤ largestDim t
+  unfolding largestDim
+  no-larger c v = largest-bounds t (cellsOf t) c (v .inside) (live-says t c v)
 
   -- and one has it where there is a live cell
-  top-cell : someLive ≡ true → (c : ℕ) × (Live t c) × (dim t c ≡ topDim t)
-  unfolding topDim
-  top-cell e = let a = largest-attained t (cellsOf t) e in (a .cell, live-true t (a .cell) (a .living), a .level)
+  largest-cell : someLive ≡ true → (c : ℕ) × (Live t c) × (dim t c ≡ largestDim t)
+  unfolding largestDim
+  largest-cell e = let a = largest-attained t (cellsOf t) e in (a .cell, live-true t (a .cell) (a .living), a .level)
 
   some-live : (c : ℕ) → Live t c → someLive ≡ true
   some-live c v = someHas-at (live t) (cellsOf t) c (v .inside) (live-says t c v)
@@ -125,26 +124,26 @@ module _ (t : List ℕ) (valid : Valid t) (n : ℕ) where
   reached-over (through {s} j r h) =
       inr (over-covered t (face t s j) (record { cell = s; place = j; living = reached-live r; used-place = h; names = refl }))
 
-is-sheet-says : (t : List ℕ) → Valid t → isSheet t ≡ true → IsSheet t (topDim t)
+is-sheet-says : (t : List ℕ) → Valid t → isSheet t ≡ true → IsSheet t (largestDim t)
 is-sheet-says t v e =
     let s = sheet-tests t e in
-    let w = top-cell t (s .living) in
+    let w = largest-cell t (s .living) in
     record {
       cell = w .0;
       living = w .1;
       level = w .2;
-      largest = top-bounds t;
-      reached = λ c a. climb t v (topDim t) (s .over) (topDim t - dim t c) c a (omega (arith, top-bounds t c a));
+      largest = no-larger t;
+      reached = λ c a. climb t v (largestDim t) (s .over) (largestDim t - dim t c) c a (omega (arith, no-larger t c a));
       two-wings = λ u a i. s .pairs u a (sym i);
     }
 
 -- the dimension of a sheet is the largest one
-sheet-dimension : (t : List ℕ) (n : ℕ) → IsSheet t n → n ≡ topDim t
+sheet-dimension : (t : List ℕ) (n : ℕ) → IsSheet t n → n ≡ largestDim t
 sheet-dimension t n s =
-    let w = top-cell t (some-live t (s .cell) (s .living)) in
-    omega (arith, top-bounds t (s .cell) (s .living), s .level, s .largest (w .0) (w .1), w .2)
+    let w = largest-cell t (some-live t (s .cell) (s .living)) in
+    omega (arith, no-larger t (s .cell) (s .living), s .level, s .largest (w .0) (w .1), w .2)
 
-sheet-passes : (t : List ℕ) (n : ℕ) → Valid t → IsSheet t n → n ≡ topDim t → Tests t
+sheet-passes : (t : List ℕ) (n : ℕ) → Valid t → IsSheet t n → n ≡ largestDim t → Tests t
 sheet-passes t n v s e =
     record {
       living = some-live t (s .cell) (s .living);
@@ -152,21 +151,21 @@ sheet-passes t n v s e =
       pairs = λ u a i. subst (λ m. wings t m u ≤ 2) e (s .two-wings u a (e ∙ sym i));
     }
 
-sheet-is-sheet : (t : List ℕ) → Valid t → (n : ℕ) → IsSheet t n → (isSheet t ≡ true) × (n ≡ topDim t)
+sheet-is-sheet : (t : List ℕ) → Valid t → (n : ℕ) → IsSheet t n → (isSheet t ≡ true) × (n ≡ largestDim t)
 sheet-is-sheet t v n s =
-    let e : n ≡ topDim t = sheet-dimension t n s in
+    let e : n ≡ largestDim t = sheet-dimension t n s in
     (tests-sheet t (sheet-passes t n v s e), e)
 
 pub sheet-yes-iff : (t : List ℕ) → Valid t → (isSheet t ≡ true) ↔ ((n : ℕ) × IsSheet t n)
 sheet-yes-iff t v = (
-  λ e. (topDim t, is-sheet-says t v e),
+  λ e. (largestDim t, is-sheet-says t v e),
   λ w. sheet-is-sheet t v (w .0) (w .1) .0,
 )
 
 -- a table with no live cell says no,
 pub no-cells-no : (t : List ℕ) → ((c : ℕ) → Live t c → ⊥) → isSheet t ≡ false
 no-cells-no t none =
-    not-true-false (isSheet t) (λ e. let w = top-cell t (sheet-tests t e .living) in none (w .0) (w .1))
+    not-true-false (isSheet t) (λ e. let w = largest-cell t (sheet-tests t e .living) in none (w .0) (w .1))
 
 -- and a table of points says yes.
 pub points-yes : (t : List ℕ) → Valid t → (c : ℕ) → Live t c → ((s : ℕ) → Live t s → dim t s ≡ 0) → isSheet t ≡ true

@@ -2,15 +2,15 @@
 -- every (n−1)-cell is a face of at most two n-cells, where n is the largest live dimension.
 -- A reader must believe these definitions; nothing here is proved.
 use mathlib.Core.Path.{_≡_}
-use mathlib.Core.Bool.{Bool, true, false, _&&_, _||_, not}
-use mathlib.Core.List.{List, [], _∷_}
+use mathlib.Core.Bool.{Bool, _&&_, _||_, not}
+use mathlib.Core.List.{List}
 use Prim.Native.Nat.{ℕ, zero, suc, max, _≤_, _<_}
 use lib.Dec.{eqb, leb}
-use Rattle.counting.specs.Counting.{howMany, someHas, pick}
+use Rattle.counting.specs.Counting.{howMany, someHas, pick, all}
 use Rattle.table.specs.Kind.{used}
-use Rattle.table.specs.Table.{cellsOf, dim, face, Live, live}
-use Rattle.table.specs.Audit.{auditGrounds, all}
-use Rattle.table.specs.Calls.{verdict, onVerdict}
+use Rattle.table.specs.Table.{cellsOf, dim, face, Live, live, isCell}
+use Rattle.audit.specs.Audit.{auditGrounds}
+use Rattle.calls.specs.Calls.{verdict, onVerdict}
 use Rattle.sheet.specs.declared.Judged.{Judged}
 use Rattle.sheet.specs.declared.Judged.the-variants.{Yes, No, NotJudged}
 
@@ -25,7 +25,7 @@ hasFace t c u = someHas (λ j. eqb (face t c j) u) (used (dim t c))
 
 -- how many n-cells have u as a face
 unfoldable pub wings : List ℕ → ℕ → ℕ → ℕ
-wings t n u = howMany (λ c. (live t c && eqb (dim t c) n) && hasFace t c u) (cellsOf t)
+wings t n u = howMany (λ c. isCell t n c && hasFace t c u) (cellsOf t)
 
 -- the sheet as it is described, n its dimension
 pub record IsSheet (t : List ℕ) (n : ℕ) : Type 0 where
@@ -37,12 +37,12 @@ pub record IsSheet (t : List ℕ) (n : ℕ) : Type 0 where
   pub two-wings : (u : ℕ) → Live t u → n ≡ suc (dim t u) → wings t n u ≤ 2
 
 -- the largest live dimension below cell number m; 0 where there is none
-unfoldable pub largestDim : List ℕ → ℕ → ℕ
-largestDim t zero = 0
-largestDim t (suc m) = pick (live t m) (max (largestDim t m) (dim t m)) (largestDim t m)
+unfoldable pub largestBelow : List ℕ → ℕ → ℕ
+largestBelow t zero = 0
+largestBelow t (suc m) = pick (live t m) (max (largestBelow t m) (dim t m)) (largestBelow t m)
 
-unfoldable pub topDim : List ℕ → ℕ
-topDim t = largestDim t (cellsOf t)
+unfoldable pub largestDim : List ℕ → ℕ
+largestDim t = largestBelow t (cellsOf t)
 
 -- whether u is a face of a live cell
 unfoldable pub covered : List ℕ → ℕ → Bool
@@ -52,8 +52,8 @@ covered t u = someHas (λ c. live t c && hasFace t c u) (cellsOf t)
 unfoldable pub isSheet : List ℕ → Bool
 isSheet t =
     someHas (live t) (cellsOf t)
-    && (all (cellsOf t) (λ c. not (live t c) || (eqb (dim t c) (topDim t) || covered t c))
-    && all (cellsOf t) (λ u. not (live t u && eqb (suc (dim t u)) (topDim t)) || leb (wings t (topDim t) u) 2))
+    && (all (cellsOf t) (λ c. not (live t c) || (eqb (dim t c) (largestDim t) || covered t c))
+    && all (cellsOf t) (λ u. not (live t u && eqb (suc (dim t u)) (largestDim t)) || leb (wings t (largestDim t) u) 2))
 
 abbrev pub sheetAnswer : List ℕ → Judged
 sheetAnswer t = onVerdict (verdict (auditGrounds t)) (pick (isSheet t) Yes No) NotJudged

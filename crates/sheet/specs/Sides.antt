@@ -6,10 +6,9 @@ use mathlib.Core.List.{List}
 use Prim.Native.Nat.{ℕ, zero, suc, max, _+_, _≤_, _<_}
 use lib.ListN.{length, getD}
 use lib.Dec.{eqb, leb, ltb}
-use Rattle.counting.specs.Counting.{howMany, someHas, pick}
+use Rattle.counting.specs.Counting.{howMany, someHas, pick, all}
 use Rattle.table.specs.Kind.{top}
 use Rattle.table.specs.Table.{cellsOf, dim, face, live}
-use Rattle.table.specs.Audit.{all}
 use Rattle.sheet.specs.Sheet.{hasFace}
 
 -- one more than the largest live dimension below cell number m; 0 where there is none

@@ -7,9 +7,9 @@ ghost use Rattle.table.specs.Kind.{faces};
 ghost use Rattle.table.specs.Table.{cellsOf, Valid};
 ghost use Rattle.sheet.specs.Sheet.{isSheet, sheetAnswer};
 ghost use Rattle.sheet.specs.Sides.{levelsBelow, namedBelow, Counted, passes as passesTest, allPass};
-use table::Refusal;
+use calls::Refusal;
+use calls::Verdict;
 use table::Table;
-use table::Verdict;
 
 // What the sheet test says.
 pub enum Judged {
@@ -116,8 +116,8 @@ fn is_sheet(t: &[u16]) -> bool
 pub fn sheet(t: &[u16]) -> Judged
     ensures { λ r. ⌜ r ≡ sheetAnswer (now (t .entry)) ⌝ }
 {
-    let v = audit::audit(t);
-    match v {
+    let found = audit::audit(t);
+    match found {
         Verdict::Accepted => {
             if is_sheet(t) {
                 return Judged::Yes;

@@ -6,10 +6,9 @@ use mathlib.Core.List.{List}
 use Prim.Native.Nat.{ℕ, _<_}
 use native.Mathlib.Omega.{arith}
 use lib.ListN.{getD}
-use Rattle.table.specs.Kind.{used}
+use Rattle.table.specs.Kind.{used, dimensions}
 use Rattle.table.specs.Table.{cellsOf, dim, face, isCell}
 use Rattle.counting.specs.Counting.{howMany, nth}
-use Rattle.sketch.specs.Form.{dimensions}
 use Rattle.sketch.specs.Written.{countOf, fileOf}
 use Rattle.sketch.specs.Read.{countIn, numberIn, faceIn, described}
 use Rattle.sketch.proofs.Parts.{layout-cong}
@@ -44,12 +43,12 @@ module _ (n : ℕ) (f : List ℕ) (w : Numbered n f) where
       ap (howMany (isCell table p)) (described-cells n f)
       ∙ rising-count (numberIn f p) (countIn f p) (λ i. w .rising p i h) (isCell table p) n (λ i. w .below p i h) (λ i. number-cell p i h) (cell-number p h)
 
-  pub back-number : (p i : ℕ) → p < dimensions → i < countIn f p → cellAt table p i ≡ numberIn f p i
+  back-number : (p i : ℕ) → p < dimensions → i < countIn f p → cellAt table p i ≡ numberIn f p i
   back-number p i h l =
       ap (λ m. nth (isCell table p) m i) (described-cells n f)
       ∙ rising-nth (numberIn f p) (countIn f p) (λ k. w .rising p k h) (isCell table p) n (λ k. w .below p k h) (λ k. number-cell p k h) (cell-number p h) i l
 
-  pub back-face : (p i j : ℕ) → p < dimensions → i < countIn f p → j < used p → faceAt table p i j ≡ faceIn f p i j
+  back-face : (p i j : ℕ) → p < dimensions → i < countIn f p → j < used p → faceAt table p i j ≡ faceIn f p i j
   back-face p i j h l m = ap (λ c. face table c j) (back-number p i h l) ∙ described-record n f w p i j h l m
 
   pub back-file : ((k : ℕ) → getD f k 0 < 256) → Fits n f → fileOf table ≡ f

@@ -8,11 +8,10 @@ use Prim.Native.Nat.{ℕ, _<_}
 use native.Mathlib.Omega.{arith}
 use borrow.Author.Tests.{eq-eqb, ne-eqb, eqb-true}
 use lib.Dec.{eqb}
-use Rattle.table.specs.Kind.{freeMark}
+use Rattle.table.specs.Kind.{freeMark, dimensions}
 use Rattle.counting.specs.Counting.{howMany, nth, someHas, pick}
 use Rattle.counting.proofs.Cases.{true-or-false}
 use Rattle.counting.proofs.Counting.{howMany-strict, nth-has, someHas-at, someHas-one, someHas-none}
-use Rattle.sketch.specs.Form.{dimensions}
 use Rattle.sketch.specs.Read.{countIn, numberIn, inBody, dimIn, placeIn}
 use Rattle.sketch.proofs.Fits.{Numbered}
 use Rattle.sketch.proofs.Rising.{nth-first, rising-far}

@@ -1,12 +1,11 @@
 -- A number in 2 bytes or in 4 and the number that stands at a place undo each other.
 -- What carries it: the places of a list of two or four, and arithmetic of 256. Assumes nothing.
 use mathlib.Core.Path.{_≡_, refl, ap, sym, _∙_}
-use mathlib.Core.List.{List, [], _∷_, _++_}
+use mathlib.Core.List.{List, [], _∷_}
 use Prim.Native.Nat.{ℕ, zero, suc, _+_, _*_, _/_, _%_, _<_}
-use native.Mathlib.Nat.{add-zero, div-add-mod', div-div-eq-div-mul}
+use native.Mathlib.Nat.{div-add-mod', div-div-eq-div-mul}
 use native.Mathlib.Omega.{arith}
-use lib.ListN.{length, getD, take, drop}
-use lib.Seq.{getD-take, getD-drop}
+use lib.ListN.{length, getD}
 use Rattle.sketch.specs.Form.{two, four, twoAt, fourAt}
 
 pub length-two : (v : ℕ) → length (two v) ≡ 2
@@ -52,36 +51,6 @@ two-reads f i v h e e′ = omega arith
 pub four-reads : (f : List ℕ) (i v : ℕ) → v < 4294967296 → getD f i 0 ≡ v % 256 → getD f (i + 1) 0 ≡ v / 256 % 256 → getD f (i + 2) 0 ≡ v / 65536 % 256 → getD f (i + 3) 0 ≡ v / 16777216 % 256 → fourAt f i ≡ v
 unfolding fourAt
 four-reads f i v h e e′ e″ e‴ = rw (e, e′, e″, e‴) (four-sum v h)
-
--- at the start of a list
-pub two-at-start : (v : ℕ) (rest : List ℕ) → v < 65536 → twoAt (two v ++ rest) 0 ≡ v
-unfolding two
-two-at-start v rest h = two-reads (two v ++ rest) 0 v h refl refl
-
-pub four-at-start : (v : ℕ) (rest : List ℕ) → v < 4294967296 → fourAt (four v ++ rest) 0 ≡ v
-unfolding four
-four-at-start v rest h = four-reads (four v ++ rest) 0 v h refl refl refl refl
-
--- what a part of a list has at k
-part-at : (f part : List ℕ) (i n k : ℕ) → take n (drop i f) ≡ part → k < n → getD f (i + k) 0 ≡ getD part k 0
-part-at f part i n k e h =
-    sym (getD-drop i f k 0) ∙ sym (getD-take n (drop i f) k 0 h) ∙ ap (λ (l : List ℕ). getD l k 0) e
-
-start-at : (f part : List ℕ) (i n : ℕ) → take n (drop i f) ≡ part → 0 < n → getD f i 0 ≡ getD part 0 0
-start-at f part i n e h = ap (λ k. getD f k 0) (sym (add-zero i)) ∙ part-at f part i n 0 e h
-
--- at a place inside a list
-pub two-inside : (f : List ℕ) (i v : ℕ) → v < 65536 → take 2 (drop i f) ≡ two v → twoAt f i ≡ v
-unfolding two
-two-inside f i v h e =
-    two-reads f i v h (start-at f (two v) i 2 e (omega arith)) (part-at f (two v) i 2 1 e (omega arith))
-
-pub four-inside : (f : List ℕ) (i v : ℕ) → v < 4294967296 → take 4 (drop i f) ≡ four v → fourAt f i ≡ v
-unfolding four
-four-inside f i v h e =
-    four-reads f i v h (start-at f (four v) i 4 e (omega arith)) (part-at f (four v) i 4 1 e (omega arith))
-    (part-at f (four v) i 4 2 e (omega arith))
-    (part-at f (four v) i 4 3 e (omega arith))
 
 -- a number read from bytes is small, and gives the bytes back
 pub two-at-small : (f : List ℕ) (i : ℕ) → getD f i 0 < 256 → getD f (i + 1) 0 < 256 → twoAt f i < 65536

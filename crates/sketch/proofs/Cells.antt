@@ -8,7 +8,7 @@ use Rattle.table.specs.Table.{cellsOf, dim, face, isCell}
 use Rattle.counting.specs.Counting.{nth}
 use Rattle.counting.proofs.Counting.{nth-has}
 use Rattle.table.proofs.Dimensions.{cell-dim}
-use Rattle.sketch.specs.Form.{dimensions}
+use Rattle.table.specs.Kind.{dimensions}
 use Rattle.sketch.specs.Written.{countOf, cellBytes, bodyOf, contentsOf, fileOf}
 use Rattle.sketch.proofs.Pieces.{pieces-cong}
 use Rattle.sketch.proofs.Picked.{pieces-picked}

@@ -4,47 +4,45 @@ use mathlib.Core.Path.{_≡_, ap, sym, _∙_}
 use mathlib.Core.Bool.{Bool, true, false}
 use mathlib.Core.List.{List}
 use mathlib.Core.Logic.{⊎-elim}
-use Prim.Native.Nat.{ℕ, _-_, _*_, _/_, _%_, _≤_, _<_}
+use Prim.Native.Nat.{ℕ, _*_, _≤_, _<_}
 use native.Mathlib.Omega.{arith}
 use borrow.Author.Tests.{lt-ltb, le-ltb}
 use lib.ListN.{length, getD, List·getD-eq-default}
-use lib.Dec.{eqb, ltb}
-use Rattle.table.specs.Kind.{width, faces, freeMark, used}
+use lib.Dec.{ltb}
+use Rattle.table.specs.Kind.{capacity, width, faces, freeMark, used, dimensions}
 use Rattle.table.specs.Table.{cellsOf, dim, face, Sized}
-use Rattle.table.proofs.Words.{length-tableOf, cellsOf-tableOf, dim-tableOf, face-tableOf, each-word}
+use Rattle.table.specs.Records.{recordAt, Alike}
+use Rattle.table.proofs.Words.{length-tableOf, cellsOf-tableOf, record-tableOf, each-word}
 use Rattle.counting.specs.Counting.{howMany, nth, someHas, pick}
 use Rattle.counting.proofs.Cases.{below-or-not}
 use Rattle.counting.proofs.Counting.{nth-below, nth-none}
-use Rattle.audit.proofs.Places.{used-fits}
-use Rattle.sketch.specs.Form.{dimensions}
-use Rattle.sketch.specs.Read.{countIn, numberIn, faceIn, inBody, dimIn, placeIn, described}
+use Rattle.table.proofs.Places.{used-fits}
+use Rattle.sketch.specs.Read.{countIn, numberIn, faceIn, inBody, dimIn, placeIn, cellIn, described}
 use Rattle.sketch.proofs.Bytes.{two-at-small}
 use Rattle.sketch.proofs.Fits.{Numbered}
 use Rattle.sketch.proofs.Bodies.{dimIn-number, placeIn-number}
 
 module _ (n : ℕ) (f : List ℕ) where
-  -- face j of cell c
-  abbrev pub faceOf : ℕ → ℕ → ℕ
-  faceOf c j = pick (ltb j (used (dimIn f c))) (faceIn f (dimIn f c) (placeIn f (dimIn f c) c) j) freeMark
-
   pub described-length : length (described n f) ≡ n * width
   unfolding described
-  described-length = length-tableOf n (dimIn f) faceOf
+  described-length = length-tableOf n (cellIn f)
 
   pub described-cells : cellsOf (described n f) ≡ n
   unfolding described
-  described-cells = cellsOf-tableOf n (dimIn f) faceOf
+  described-cells = cellsOf-tableOf n (cellIn f)
+
+  pub described-alike : (c : ℕ) → c < n → Alike (recordAt (described n f) c) (cellIn f c)
+  unfolding described
+  described-alike c h = record-tableOf n (cellIn f) c h
 
   pub described-dim : (c : ℕ) → c < n → dim (described n f) c ≡ dimIn f c
-  unfolding described
-  described-dim c h = dim-tableOf n (dimIn f) faceOf c h
+  described-dim c h = described-alike c h .same-dim
 
-  pub described-face : (c j : ℕ) → c < n → j < faces → face (described n f) c j ≡ faceOf c j
-  unfolding described
-  described-face c j h l = face-tableOf n (dimIn f) faceOf c j h l
+  described-face : (c j : ℕ) → c < n → j < faces → face (described n f) c j ≡ cellIn f c .face j
+  described-face c j h l = described-alike c h .same-face j l
 
   -- a used face and an unused one, of a cell of which the dimension is known
-  pub described-used : (c p j : ℕ) → c < n → dimIn f c ≡ p → j < used p → face (described n f) c j ≡ faceIn f p (placeIn f p c) j
+  described-used : (c p j : ℕ) → c < n → dimIn f c ≡ p → j < used p → face (described n f) c j ≡ faceIn f p (placeIn f p c) j
   described-used c p j h e l =
       described-face c j h (omega (arith, used-fits p))
       ∙ ap (λ q. pick (ltb j (used q)) (faceIn f q (placeIn f q c) j) freeMark) e
@@ -62,7 +60,7 @@ module _ (n : ℕ) (f : List ℕ) where
       described-used (numberIn f p i) p j (w .below p i h l) (dimIn-number f n w p i h l) m
       ∙ ap (λ k. faceIn f p k j) (placeIn-number f n w p i h l)
 
-  pub described-sized : 1 ≤ n → n ≤ 512 → Sized (described n f)
+  pub described-sized : 1 ≤ n → n ≤ capacity → Sized (described n f)
   described-sized h l =
       let e : cellsOf (described n f) ≡ n = described-cells in
       record {
@@ -94,23 +92,8 @@ module _ (n : ℕ) (f : List ℕ) (bytes : (k : ℕ) → getD f k 0 < 256) where
   pick-small true x y h l = h
   pick-small false x y h l = l
 
-  face-of-small : (c j : ℕ) → faceOf n f c j < 65536
+  face-of-small : (c j : ℕ) → cellIn f c .face j < 65536
   face-of-small c j =
       pick-small (ltb j (used (dimIn f c))) (faceIn f (dimIn f c) (placeIn f (dimIn f c) c) j) freeMark
       (face-small (dimIn f c) (placeIn f (dimIn f c) c) j)
       (omega arith)
-
-  pub described-words-small : (i : ℕ) → getD (described n f) i 0 < 65536
-  described-words-small i = ⊎-elim inside past (below-or-not i (n * width))
-    where
-      inside : i < n * width → getD (described n f) i 0 < 65536
-      inside l =
-          each-word (λ w. w < 65536) (described n f) n (described-length n f)
-          (λ c h. rw (described-dim n f c h) (dim-small c))
-          (λ c j h m. rw (described-face n f c j h m) (face-of-small c j))
-          i (omega (arith, described-length n f))
-
-      past : n * width ≤ i → getD (described n f) i 0 < 65536
-      past l =
-          let long : length (described n f) ≤ i = omega (arith, described-length n f) in
-          rw (List·getD-eq-default (described n f) 0 long) (omega arith)

@@ -9,10 +9,10 @@ use native.Mathlib.Omega.{arith}
 use lib.ListN.{length, getD, List·getD-append}
 use lib.Seq.{getD-append-add}
 use Rattle.counting.specs.Counting.{pick}
-use Rattle.table.specs.Kind.{used}
+use Rattle.table.specs.Kind.{used, dimensions}
 use Rattle.table.specs.Table.{cellsOf, dim, face, isCell}
 use Rattle.counting.proofs.Cases.{below-or-not}
-use Rattle.sketch.specs.Form.{two, four, pieces, dimensions, bodyStart}
+use Rattle.sketch.specs.Form.{two, four, pieces, bodyStart}
 use Rattle.sketch.specs.Written.{countOf, cellBytes, bodyOf, contentsOf, fileOf}
 use Rattle.sketch.proofs.Bytes.{two-small, four-small}
 use Rattle.sketch.proofs.Pieces.{pieces-zero, pieces-suc}
@@ -20,7 +20,7 @@ use Rattle.sketch.proofs.Pieces.{pieces-zero, pieces-suc}
 abbrev pub AreBytes : List ℕ → Type 0
 AreBytes f = (k : ℕ) → getD f k 0 < 256
 
-pub append-bytes : (a b : List ℕ) → AreBytes a → AreBytes b → AreBytes (a ++ b)
+append-bytes : (a b : List ℕ) → AreBytes a → AreBytes b → AreBytes (a ++ b)
 append-bytes a b h l k = ⊎-elim left right (below-or-not k (length a))
   where
     left : k < length a → getD (a ++ b) k 0 < 256
@@ -31,7 +31,7 @@ append-bytes a b h l k = ⊎-elim left right (below-or-not k (length a))
         let e : length a + (k - length a) ≡ k = omega arith in
         subst (λ x. x < 256) (sym (getD-append-add a b (k - length a) 0) ∙ ap (λ x. getD (a ++ b) x 0) e) (l (k - length a))
 
-pub pieces-bytes : (g : ℕ → List ℕ) (n : ℕ) → ((k : ℕ) → AreBytes (g k)) → AreBytes (pieces g n)
+pieces-bytes : (g : ℕ → List ℕ) (n : ℕ) → ((k : ℕ) → AreBytes (g k)) → AreBytes (pieces g n)
 pieces-bytes g zero h = subst AreBytes (sym (pieces-zero g)) (λ k. omega arith)
 pieces-bytes g (suc n) h = subst AreBytes (sym (pieces-suc g n)) (append-bytes (pieces g n) (g n) (pieces-bytes g n h) (h n))
 
@@ -40,18 +40,18 @@ pick-bytes true a h = h
 pick-bytes false a h = λ k. omega arith
 
 module _ (t : List ℕ) where
-  pub cell-bytes : (c : ℕ) → AreBytes (cellBytes t c)
+  cell-bytes : (c : ℕ) → AreBytes (cellBytes t c)
   unfolding cellBytes
   cell-bytes c =
       append-bytes (two c) (pieces (λ j. two (face t c j)) (used (dim t c))) (two-small c)
       (pieces-bytes (λ j. two (face t c j)) (used (dim t c)) (λ j. two-small (face t c j)))
 
-  pub body-bytes : (p : ℕ) → AreBytes (bodyOf t p)
+  body-bytes : (p : ℕ) → AreBytes (bodyOf t p)
   unfolding bodyOf
   body-bytes p =
       pieces-bytes (λ c. pick (isCell t p c) (cellBytes t c) []) (cellsOf t) (λ c. pick-bytes (isCell t p c) (cellBytes t c) (cell-bytes c))
 
-  pub contents-bytes : AreBytes (contentsOf t)
+  contents-bytes : AreBytes (contentsOf t)
   unfolding contentsOf
   contents-bytes =
       append-bytes (two (cellsOf t)) (pieces entry dimensions) (two-small (cellsOf t))
@@ -60,8 +60,3 @@ module _ (t : List ℕ) where
     where
       entry : ℕ → List ℕ
       entry p = two (countOf t p) ++ four (bodyStart (countOf t) p)
-
-  pub file-bytes : AreBytes (fileOf t)
-  unfolding fileOf
-  file-bytes =
-      append-bytes (contentsOf t) (pieces (bodyOf t) dimensions) contents-bytes (pieces-bytes (bodyOf t) dimensions body-bytes)

@@ -9,10 +9,11 @@ use borrow.Author.Tests.{eq-eqb, ne-eqb, le-leb, lt-ltb, eqb-true, leb-true, ltb
 use lib.ListN.{length}
 use lib.Dec.{leb, ltb, eqb}
 use Rattle.counting.proofs.Cases.{and-both, and-left, and-right}
-use Rattle.table.specs.Audit.{all}
+use Rattle.counting.specs.Counting.{all}
 use Rattle.counting.proofs.Counting.{someHas-each, someHas-none}
-use Rattle.audit.proofs.Scans.{or-else, all-true, all-says}
-use Rattle.sketch.specs.Form.{twoAt, fourAt, dimensions, contentsSize, offsetPlace, bodyStart}
+use Rattle.counting.proofs.Tests.{or-else, all-true, all-says}
+use Rattle.sketch.specs.Form.{twoAt, fourAt, contentsSize, offsetPlace, bodyStart}
+use Rattle.table.specs.Kind.{dimensions}
 use Rattle.sketch.specs.Read.{countIn, numberIn, contentsFit, inBody, numberFits, numbersFit}
 
 -- the contents are in order

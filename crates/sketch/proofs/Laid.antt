@@ -5,8 +5,8 @@ use mathlib.Core.List.{List}
 use Prim.Native.Nat.{ℕ, _+_, _*_, _<_}
 use native.Mathlib.Omega.{arith}
 use lib.ListN.{length}
-use Rattle.table.specs.Kind.{used}
-use Rattle.sketch.specs.Form.{two, four, pieces, dimensions, countPlace, offsetPlace, recordSize, facePlace, bodyStart}
+use Rattle.table.specs.Kind.{used, dimensions}
+use Rattle.sketch.specs.Form.{two, four, pieces, countPlace, offsetPlace, recordSize, facePlace, bodyStart}
 use Rattle.sketch.proofs.Bytes.{length-two}
 use Rattle.sketch.proofs.Pieces.{length-even}
 use Rattle.sketch.proofs.Stands.{Stands, stands-whole, stands-is, stands-moved, stands-left, stands-right, stands-both, stands-piece, stands-pieces}

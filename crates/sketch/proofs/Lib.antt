@@ -14,6 +14,7 @@ pub mod Described
 pub mod Back
 pub mod There
 pub mod Accepted
+pub mod Longest
 pub mod RoundTrip
 pub mod FileBytes
 pub mod Example

@@ -6,8 +6,8 @@ use mathlib.Core.List.{List, _++_}
 use Prim.Native.Nat.{ℕ, _+_, _*_, _<_}
 use native.Mathlib.Omega.{arith}
 use lib.ListN.{length, length-append}
-use Rattle.table.specs.Kind.{used}
-use Rattle.sketch.specs.Form.{two, four, pieces, dimensions, entrySize, contentsSize, countPlace, offsetPlace, recordSize, facePlace, bodyStart}
+use Rattle.table.specs.Kind.{used, dimensions}
+use Rattle.sketch.specs.Form.{two, four, pieces, entrySize, contentsSize, countPlace, offsetPlace, recordSize, facePlace, bodyStart}
 use Rattle.sketch.proofs.Bytes.{length-two, length-four}
 use Rattle.sketch.proofs.Pieces.{total-cong, length-pieces, length-even, pieces-cong}
 use Rattle.sketch.proofs.Stands.{Stands}
@@ -38,7 +38,7 @@ pub length-recordBytes : (p c : ℕ) (face : ℕ → ℕ) → length (recordByte
 length-recordBytes p c face =
     omega (arith, length-append (two c) (pieces (λ j. two (face j)) (used p)), length-two c, length-faces face (used p))
 
-pub length-bodyBytes : (p k : ℕ) (numbers : ℕ → ℕ) (faces : ℕ → ℕ → ℕ) → length (bodyBytes p k numbers faces) ≡ k * recordSize p
+length-bodyBytes : (p k : ℕ) (numbers : ℕ → ℕ) (faces : ℕ → ℕ → ℕ) → length (bodyBytes p k numbers faces) ≡ k * recordSize p
 length-bodyBytes p k numbers faces =
     length-even (λ i. recordBytes p (numbers i) (faces i)) (recordSize p) k (λ i l. length-recordBytes p (numbers i) (faces i))
 

@@ -4,11 +4,10 @@ use mathlib.Core.Path.{_≡_, refl, ap, ap₂, sym, _∙_}
 use mathlib.Core.List.{List, [], _++_}
 use mathlib.Core.Logic.{⊎-elim}
 use Prim.Native.Nat.{ℕ, zero, suc, _+_, _*_, _≤_, _<_}
-use native.Mathlib.Nat.{zero-mul, suc-mul, add-mul, not-suc-le-zero, le-of-suc-le-suc, eq-or-lt-of-le}
+use native.Mathlib.Nat.{zero-mul, suc-mul, add-mul, le-of-suc-le-suc, eq-or-lt-of-le}
 use native.Mathlib.Numerals.{add-one}
 use native.Mathlib.Omega.{arith}
-use lib.ListN.{length, take, drop, length-append, length-drop}
-use lib.Seq.{take-append-le, drop-append-le, take-length, drop-append-seam}
+use lib.ListN.{length, length-append}
 use Rattle.sketch.specs.Form.{total, pieces}
 
 module _ (f : ℕ → ℕ) where
@@ -54,7 +53,7 @@ total-scaled f w (suc n) =
     total-suc (λ k. f k * w) n ∙ ap (λ x. x + f n * w) (total-scaled f w n) ∙ sym (add-mul (total f n) (f n) w)
     ∙ ap (λ x. x * w) (sym (total-suc f n))
 
-pub total-const : (w n : ℕ) → total (λ k. w) n ≡ n * w
+total-const : (w n : ℕ) → total (λ k. w) n ≡ n * w
 total-const w zero = total-zero (λ k. w) ∙ sym (zero-mul w)
 total-const w (suc n) = total-suc (λ k. w) n ∙ ap (λ x. x + w) (total-const w n) ∙ sym (suc-mul n w)
 
@@ -75,36 +74,9 @@ module _ (f : ℕ → List ℕ) where
   length-pieces zero = refl
   length-pieces (suc n) = length-append (pieces f n) (f n) ∙ ap (λ m. m + length (f n)) (length-pieces n)
 
-  pub length-pieces-more : (n : ℕ) → length (pieces f (n + 1)) ≡ length (pieces f n) + length (f n)
-  length-pieces-more n = ap length (pieces-more n) ∙ length-append (pieces f n) (f n)
-
   -- pieces of one length
   pub length-even : (w n : ℕ) → ((k : ℕ) → k < n → length (f k) ≡ w) → length (pieces f n) ≡ n * w
   length-even w n h = length-pieces n ∙ total-cong (λ k. length (f k)) (λ k. w) n h ∙ total-const w n
-
-  -- piece k starts where the pieces before it end
-  pub piece-inside : (k n : ℕ) → k < n → take (length (f k)) (drop (length (pieces f k)) (pieces f n)) ≡ f k
-  piece-inside k zero h = absurd (not-suc-le-zero h)
-  piece-inside k (suc n) h =
-      ⊎-elim (λ e. last e)
-      (λ l. more l (piece-inside k n l))
-      (eq-or-lt-of-le (le-of-suc-le-suc h))
-    where
-      last : k ≡ n → take (length (f k)) (drop (length (pieces f k)) (pieces f (suc n))) ≡ f k
-      last e =
-          ap (λ m. take (length (f k)) (drop (length (pieces f k)) (pieces f (suc m)))) (sym e)
-          ∙ ap (λ l. take (length (f k)) (drop (length (pieces f k)) l)) (pieces-suc k)
-          ∙ ap (take (length (f k))) (drop-append-seam (pieces f k) (f k))
-          ∙ take-length (f k)
-
-      more : k < n → take (length (f k)) (drop (length (pieces f k)) (pieces f n)) ≡ f k → take (length (f k)) (drop (length (pieces f k)) (pieces f (suc n))) ≡ f k
-      more l e =
-          let inside : length (pieces f k) + length (f k) ≤ length (pieces f n) = omega (arith, length-pieces k, length-pieces n, total-inside (λ i. length (f i)) k n l) in
-          let left : length (f k) ≤ length (drop (length (pieces f k)) (pieces f n)) = omega (arith, length-drop (length (pieces f k)) (pieces f n)) in
-          ap (λ l. take (length (f k)) (drop (length (pieces f k)) l)) (pieces-suc n)
-          ∙ ap (take (length (f k))) (drop-append-le (length (pieces f k)) (pieces f n) (f n) (omega arith))
-          ∙ take-append-le (length (f k)) (drop (length (pieces f k)) (pieces f n)) (f n) left
-          ∙ e
 
 pub pieces-cong : (f g : ℕ → List ℕ) (n : ℕ) → ((k : ℕ) → k < n → f k ≡ g k) → pieces f n ≡ pieces g n
 unfolding pieces

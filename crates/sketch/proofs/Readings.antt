@@ -5,8 +5,8 @@ use mathlib.Core.List.{List}
 use Prim.Native.Nat.{ℕ, _+_, _*_, _≤_, _<_}
 use native.Mathlib.Omega.{arith}
 use lib.ListN.{getD}
-use Rattle.table.specs.Kind.{used}
-use Rattle.sketch.specs.Form.{two, four, twoAt, dimensions, countPlace, offsetPlace, recordSize, facePlace, bodyStart}
+use Rattle.table.specs.Kind.{used, dimensions}
+use Rattle.sketch.specs.Form.{two, four, twoAt, countPlace, offsetPlace, recordSize, facePlace, bodyStart}
 use Rattle.sketch.specs.Read.{countIn, recordIn, numberIn, faceIn}
 use Rattle.sketch.proofs.Stands.{Stands, stands-two, stands-four, two-stands, four-stands}
 use Rattle.sketch.proofs.Parts.{bodyStart-cong, Laid}

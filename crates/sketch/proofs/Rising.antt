@@ -11,7 +11,7 @@ use Rattle.counting.proofs.Cases.{below-or-not, true-or-false}
 use Rattle.counting.proofs.Counting.{howMany-zero, howMany-yes, howMany-no, rank-nth}
 
 -- where no number has the property the count stands still
-pub howMany-still : (h : ℕ → Bool) (m n : ℕ) → m ≤ n → ((c : ℕ) → m ≤ c → c < n → h c ≡ false) → howMany h n ≡ howMany h m
+howMany-still : (h : ℕ → Bool) (m n : ℕ) → m ≤ n → ((c : ℕ) → m ≤ c → c < n → h c ≡ false) → howMany h n ≡ howMany h m
 howMany-still h m zero l none = let e : m ≡ 0 = omega arith in rw e
 howMany-still h m (suc n) l none =
     ⊎-elim (λ e. rw e)
@@ -30,11 +30,6 @@ module _ (a : ℕ → ℕ) (k : ℕ) (rising : (i : ℕ) → suc i < k → a i <
       ⊎-elim (λ e. subst (λ m. a m < a (suc j)) (sym e) (rising j l))
       (λ b. omega (arith, rising-far i j b (omega arith), rising j l))
       (eq-or-lt-of-le (le-of-suc-le-suc h))
-
-  pub rising-once : (i j : ℕ) → i < k → j < k → a i ≡ a j → i ≡ j
-  rising-once i j h l e =
-      ⊎-elim (λ b. absurd (omega (arith, rising-far i j b l))) (λ b. ⊎-elim (λ x. sym x) (λ x. absurd (omega (arith, rising-far j i x h))) (eq-or-lt-of-le b))
-      (below-or-not i j)
 
   module _ (h : ℕ → Bool) (n : ℕ) (below : (i : ℕ) → i < k → a i < n) (has : (i : ℕ) → i < k → h (a i) ≡ true) (one : (c : ℕ) → c < n → h c ≡ true → (i : ℕ) × (i < k) × (a i ≡ c)) where
     -- a number that is none of them has not the property

@@ -5,22 +5,22 @@ use mathlib.Core.Path.{_≡_, ap, ap₂, sym, subst, _∙_}
 use mathlib.Core.Bool.{true}
 use mathlib.Core.List.{List}
 use mathlib.Core.Logic.{⊎-elim, _↔_}
-use Prim.Native.Nat.{ℕ, _*_, _≤_, _<_}
+use Prim.Native.Nat.{ℕ, _≤_, _<_}
 use native.Mathlib.Omega.{arith}
 use lib.ListN.{length, getD, replicate, List·getD-eq-default}
 use lib.Dec.{eqb}
 use Rattle.counting.specs.Counting.{pick}
-use Rattle.table.specs.Kind.{width, faces, freeMark, used}
+use Rattle.table.specs.Kind.{faces, freeMark, used}
 use Rattle.table.proofs.Words.{each-word}
 use Rattle.table.specs.Table.{cellsOf, dim, face, Sized, Valid}
-use Rattle.table.specs.Audit.{sound}
-use Rattle.table.specs.Calls.{onVerdict}
-use Rattle.table.specs.Numbers.{numberOf}
-use Rattle.table.specs.declared.Verdict.{Verdict}
-use Rattle.table.specs.declared.Verdict.the-variants.{Accepted}
+use Rattle.audit.specs.Audit.{sound}
+use Rattle.calls.specs.Calls.{onVerdict}
+use Rattle.calls.specs.Numbers.{numberOf}
+use Rattle.calls.specs.declared.Verdict.{Verdict}
+use Rattle.calls.specs.declared.Verdict.the-variants.{Accepted}
 use Rattle.counting.proofs.Cases.{below-or-not}
-use Rattle.audit.proofs.Places.{used-says}
-use Rattle.audit.proofs.Sizes.{sized-says}
+use Rattle.table.proofs.Places.{used-says}
+use Rattle.table.proofs.Sizes.{sized-says}
 use Rattle.audit.proofs.Valid.{valid-is-sound}
 use Rattle.sketch.specs.Form.{twoAt}
 use Rattle.sketch.specs.Written.{fileOf}
@@ -90,10 +90,3 @@ module _ (t : List ℕ) (v : Valid t) where
       (λ l. omega (arith, v .face-live c j (record { inside = h; low = used-says (dim t c) j l .1 }) l .inside, v .sized .room))
       (λ l. omega (arith, v .unused c j h l m))
       (below-or-not j (used (dim t c)))
-
-  pub valid-words-small : (i : ℕ) → getD t i 0 < 65536
-  valid-words-small i =
-      ⊎-elim (each-word (λ w. w < 65536) t (cellsOf t) (v .sized .whole) dim-small face-small i) past (below-or-not i (length t))
-    where
-      past : length t ≤ i → getD t i 0 < 65536
-      past l = rw (List·getD-eq-default t 0 l) (omega arith)

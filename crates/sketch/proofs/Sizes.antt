@@ -1,4 +1,4 @@
--- How long the parts of a written file are, where its bodies start, and that a file has at most 8,236 bytes.
+-- How long the parts of a written file are, and where its bodies start.
 -- What carries it: a cell is in one body at most, so the counts together are at most N. Assumes nothing.
 use mathlib.Core.Path.{_≡_, refl, ap, _∙_}
 use mathlib.Core.Bool.{Bool, true, false}
@@ -7,23 +7,19 @@ use mathlib.Core.Logic.{_⊎_, inl, inr, ⊎-elim}
 use Prim.Native.Nat.{ℕ, zero, suc, _+_, _*_, _≤_}
 use native.Mathlib.Nat.{mul-le-mul-left}
 use native.Mathlib.Omega.{arith}
-use lib.ListN.{length}
-use Rattle.table.specs.Kind.{capacity, top}
+use lib.ListN.{length, length-append}
+use Rattle.table.specs.Kind.{capacity, top, dimensions}
 use Rattle.table.specs.Table.{cellsOf, dim, face, Sized, isCell}
 use Rattle.counting.specs.Counting.{howMany, pick}
 use Rattle.counting.proofs.Cases.{true-or-false}
 use Rattle.counting.proofs.Counting.{howMany-zero, howMany-yes, howMany-no}
-use Rattle.audit.proofs.Places.{used-fits}
-use Rattle.sketch.specs.Form.{total, dimensions, contentsSize, recordSize, bodyStart}
+use Rattle.table.proofs.Places.{used-fits}
+use Rattle.sketch.specs.Form.{total, pieces, contentsSize, recordSize, bodyStart, longest}
 use Rattle.sketch.specs.Written.{countOf, cellBytes, bodyOf, contentsOf, fileOf}
-use Rattle.sketch.proofs.Pieces.{total-zero, total-suc, total-more, total-grows, total-less, total-scaled}
-use Rattle.sketch.proofs.Parts.{length-recordBytes, length-bodyBytes, length-contentsBytes, length-layout}
+use Rattle.sketch.proofs.Pieces.{total-zero, total-suc, total-more, total-grows, total-less, total-scaled, pieces-suc, pieces-cong}
+use Rattle.sketch.proofs.Parts.{bodiesBytes, length-recordBytes, length-contentsBytes, body-place, length-layout}
 use Rattle.table.proofs.Dimensions.{cell-dim}
 use Rattle.sketch.proofs.Cells.{cellAt, faceAt, record-is, body-is, file-is}
-
--- the most bytes that a file has
-abbrev pub longest : ℕ
-longest = contentsSize + capacity * recordSize top
 
 module _ (counts : ℕ → ℕ) where
   pub bodyStart-zero : bodyStart counts 0 ≡ contentsSize
@@ -107,16 +103,13 @@ module _ (h : ℕ → ℕ → Bool) (d : ℕ → ℕ) (one : (p c : ℕ) → h p
   total-none zero = total-zero (λ p. howMany (h p) 0)
   total-none (suc m) = omega (arith, total-suc (λ p. howMany (h p) 0) m, total-none m, howMany-zero (h m))
 
-  pub counts-together : (n m : ℕ) → total (λ p. howMany (h p) n) m ≤ n
+  counts-together : (n m : ℕ) → total (λ p. howMany (h p) n) m ≤ n
   counts-together zero m = omega (arith, total-none m)
   counts-together (suc n) m = omega (arith, total-marks n m, counts-together n m, mark-once n m .1)
 
 module _ (t : List ℕ) where
   pub length-cell : (c : ℕ) → length (cellBytes t c) ≡ recordSize (dim t c)
   length-cell c = ap length (record-is t (dim t c) c refl) ∙ length-recordBytes (dim t c) c (face t c)
-
-  pub length-body : (p : ℕ) → length (bodyOf t p) ≡ countOf t p * recordSize p
-  length-body p = ap length (body-is t p) ∙ length-bodyBytes p (countOf t p) (cellAt t p) (faceAt t p)
 
   pub length-contents : length (contentsOf t) ≡ contentsSize
   unfolding contentsOf
@@ -125,6 +118,16 @@ module _ (t : List ℕ) where
   pub length-file : length (fileOf t) ≡ bodyStart (countOf t) dimensions
   length-file = ap length (file-is t) ∙ length-layout (cellsOf t) (countOf t) (cellAt t) (faceAt t)
 
+  -- the bodies before p end where body p starts
+  pub bodies-place : (p : ℕ) → contentsSize + length (pieces (bodyOf t) p) ≡ bodyStart (countOf t) p
+  bodies-place p =
+      ap (λ x. contentsSize + length x) (pieces-cong (bodyOf t) (bodiesBytes (countOf t) (cellAt t) (faceAt t)) p (λ q l. body-is t q))
+      ∙ body-place (cellsOf t) (countOf t) (cellAt t) (faceAt t) p
+
+  pub body-end : (p : ℕ) → bodyStart (countOf t) p + length (bodyOf t p) ≡ bodyStart (countOf t) (suc p)
+  body-end p =
+      omega (arith, bodies-place p, bodies-place (suc p), ap length (pieces-suc (bodyOf t) p), length-append (pieces (bodyOf t) p) (bodyOf t p))
+
   -- the counts together are at most N
   pub counts-fit : (p : ℕ) → total (countOf t) p ≤ cellsOf t
   unfolding countOf
@@ -132,6 +135,3 @@ module _ (t : List ℕ) where
 
   pub start-fits : (p : ℕ) → Sized t → bodyStart (countOf t) p ≤ longest
   start-fits p s = bodyStart-most (countOf t) p capacity (omega (arith, counts-fit p, s .room))
-
-  pub file-fits : Sized t → length (fileOf t) ≤ longest
-  file-fits s = omega (arith, length-file, start-fits dimensions s)

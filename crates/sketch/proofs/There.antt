@@ -6,14 +6,13 @@ use mathlib.Core.List.{List}
 use mathlib.Core.Logic.{_⊎_, inl, inr, ⊎-elim}
 use Prim.Native.Nat.{ℕ, suc, _≤_, _<_}
 use native.Mathlib.Omega.{arith}
-use Rattle.table.specs.Kind.{capacity, top, faces, freeMark, used}
+use Rattle.table.specs.Kind.{capacity, top, faces, freeMark, used, dimensions}
 use Rattle.table.specs.Table.{cellsOf, dim, face, Valid, isCell}
 use Rattle.table.proofs.Words.{table-by-records}
 use Rattle.counting.specs.Counting.{howMany}
 use Rattle.counting.proofs.Cases.{below-or-not, true-or-false}
 use Rattle.counting.proofs.Counting.{howMany-most, howMany-strict, nth-below, nth-rising, rank-nth}
-use Rattle.audit.proofs.Places.{used-says}
-use Rattle.sketch.specs.Form.{dimensions}
+use Rattle.table.proofs.Places.{used-says}
 use Rattle.sketch.specs.Written.{countOf, fileOf}
 use Rattle.sketch.specs.Read.{countIn, numberIn, faceIn, inBody, dimIn, described}
 use Rattle.sketch.proofs.Parts.{Laid}
@@ -30,7 +29,7 @@ module _ (t : List ℕ) (v : Valid t) where
   abbrev file : List ℕ
   file = fileOf t
 
-  pub written-laid : Laid (cellsOf t) (countOf t) (cellAt t) (faceAt t) file
+  written-laid : Laid (cellsOf t) (countOf t) (cellAt t) (faceAt t) file
   written-laid =
       subst (Laid (cellsOf t) (countOf t) (cellAt t) (faceAt t)) (sym (file-is t))
       (layout-laid (cellsOf t) (countOf t) (cellAt t) (faceAt t))
@@ -158,5 +157,4 @@ module _ (t : List ℕ) (v : Valid t) where
   pub there-table : described (cellsOf t) file ≡ t
   there-table =
       table-by-records (described (cellsOf t) file) t (cellsOf t) (described-length (cellsOf t) file) (v .sized .whole)
-      (λ c h. described-dim (cellsOf t) file c h ∙ same-dim c h)
-      same-face
+      (λ c h. record { same-dim = described-dim (cellsOf t) file c h ∙ same-dim c h; same-face = λ j m. same-face c j h m })

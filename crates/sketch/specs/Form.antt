@@ -3,7 +3,7 @@
 use mathlib.Core.List.{List, [], _∷_, _++_}
 use Prim.Native.Nat.{ℕ, zero, suc, _+_, _*_, _/_, _%_}
 use lib.ListN.{getD}
-use Rattle.table.specs.Kind.{top, used}
+use Rattle.table.specs.Kind.{capacity, top, dimensions, used}
 
 -- a number in 2 bytes and in 4, the low byte first
 unfoldable pub two : ℕ → List ℕ
@@ -28,10 +28,6 @@ total f (suc n) = total f n + f n
 unfoldable pub pieces : (ℕ → List ℕ) → ℕ → List ℕ
 pieces f zero = []
 pieces f (suc n) = pieces f n ++ f n
-
--- dimensions, 0 to 6
-abbrev pub dimensions : ℕ
-dimensions = top + 1
 
 -- The table of contents: N in 2 bytes, then for each dimension the count in 2 bytes and the body's offset in 4.
 abbrev pub entrySize : ℕ
@@ -58,3 +54,7 @@ facePlace j = 2 + 2 * j
 -- Where the body of dimension p starts, for bodies of these counts without gaps. At p = 7 it is the file's length.
 unfoldable pub bodyStart : (ℕ → ℕ) → ℕ → ℕ
 bodyStart counts p = contentsSize + total (λ q. counts q * recordSize q) p
+
+-- the most bytes that a file has: those of a full table of cells of the largest dimension
+abbrev pub longest : ℕ
+longest = contentsSize + capacity * recordSize top

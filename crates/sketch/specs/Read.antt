@@ -1,23 +1,25 @@
 -- What a file describes: the table, where its contents and its body numbers are in order. And what the reader answers and leaves.
 -- A reader must believe these definitions; nothing here is proved.
-use mathlib.Core.Bool.{Bool, true, false, _&&_, _||_, not}
+use mathlib.Core.Bool.{Bool, _&&_, _||_, not}
 use mathlib.Core.List.{List, [], _∷_}
-use Prim.Native.Nat.{ℕ, zero, suc, _+_, _*_, _-_}
+use Prim.Native.Nat.{ℕ, _+_, _*_, _-_}
 use lib.ListN.{length, replicate}
 use lib.Dec.{eqb, ltb, leb}
-use Rattle.counting.specs.Counting.{someHas, nth, pick}
-use Rattle.table.specs.Kind.{freeMark, used}
-use Rattle.table.specs.Table.{cellsOf}
-use Rattle.table.specs.Words.{tableOf}
-use Rattle.table.specs.Audit.{all, onLength, sound}
-use Rattle.table.specs.Calls.{Ground, verdict, onVerdict}
-use Rattle.table.specs.Numbers.{numberOf}
-use Rattle.table.specs.declared.Refusal.{Refusal}
-use Rattle.table.specs.declared.Refusal.the-variants.{BadContents, BadNumber, Invalid}
-use Rattle.table.specs.declared.Verdict.{Verdict}
-use Rattle.sketch.specs.Form.{twoAt, fourAt, dimensions, contentsSize, countPlace, offsetPlace, recordSize, facePlace, bodyStart}
+use Rattle.counting.specs.Counting.{someHas, nth, pick, all}
+use Rattle.table.specs.Kind.{freeMark, used, dimensions}
+use Rattle.table.specs.Table.{cellsOf, onLength}
+use Rattle.table.specs.Records.{Record, tableOf}
+use Rattle.audit.specs.Audit.{onValidity}
+use Rattle.calls.specs.Calls.{Ground, verdict, onVerdict}
+use Rattle.calls.specs.Numbers.{numberOf}
+use Rattle.calls.specs.declared.Refusal.the-variants.{BadContents, BadNumber}
+use Rattle.calls.specs.declared.Verdict.{Verdict}
+use Rattle.sketch.specs.Form.{twoAt, fourAt, contentsSize, countPlace, offsetPlace, recordSize, facePlace, bodyStart}
 
--- the count of p-cells that the contents name
+-- the number of cells and the count of p-cells that the contents name
+abbrev pub sizeIn : List ℕ → ℕ
+sizeIn f = twoAt f 0
+
 unfoldable pub countIn : List ℕ → ℕ → ℕ
 countIn f p = twoAt f (countPlace p)
 
@@ -36,7 +38,7 @@ faceIn f p i j = twoAt f (recordIn f p i + facePlace j)
 unfoldable pub contentsFit : ℕ → List ℕ → Bool
 contentsFit n f =
     leb contentsSize (length f)
-    && (eqb (twoAt f 0) n
+    && (eqb (sizeIn f) n
     && (all dimensions (λ p. eqb (fourAt f (offsetPlace p)) (bodyStart (countIn f) p))
     && eqb (length f) (bodyStart (countIn f) dimensions)))
 
@@ -61,18 +63,24 @@ dimIn f c = pick (someHas (λ p. inBody f p c) dimensions) (nth (λ p. inBody f 
 unfoldable pub placeIn : List ℕ → ℕ → ℕ → ℕ
 placeIn f p c = nth (λ i. eqb (numberIn f p i) c) (countIn f p) 0
 
+-- the record of cell c: its faces as they stand there, and the free mark in every word that it does not use
+abbrev pub cellIn : List ℕ → ℕ → Record
+cellIn f c =
+    record {
+      dim = dimIn f c;
+      face = λ j. pick (ltb j (used (dimIn f c))) (faceIn f (dimIn f c) (placeIn f (dimIn f c) c) j) freeMark;
+    }
+
 -- the table of n cells that the file describes
 unfoldable pub described : ℕ → List ℕ → List ℕ
-described n f =
-    tableOf n (dimIn f)
-    (λ c j. pick (ltb j (used (dimIn f c))) (faceIn f (dimIn f c) (placeIn f (dimIn f c) c) j) freeMark)
+described n f = tableOf n (cellIn f)
 
 abbrev pub readGrounds : List ℕ → List ℕ → List Ground
 readGrounds t f =
     onLength t
     ∷ record { refusal = BadContents; applies = not (contentsFit (cellsOf t) f) }
     ∷ record { refusal = BadNumber; applies = not (numbersFit (cellsOf t) f) }
-    ∷ record { refusal = Invalid; applies = not (sound (described (cellsOf t) f)) }
+    ∷ onValidity (described (cellsOf t) f)
     ∷ []
 
 unfoldable pub readVerdict : List ℕ → List ℕ → Verdict

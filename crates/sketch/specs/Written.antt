@@ -5,13 +5,13 @@ use Prim.Native.Nat.{ℕ, _+_}
 use lib.ListN.{length, drop}
 use lib.Dec.{ltb}
 use Rattle.counting.specs.Counting.{howMany, pick}
-use Rattle.table.specs.Kind.{used}
+use Rattle.table.specs.Kind.{used, dimensions}
 use Rattle.table.specs.Table.{cellsOf, dim, face, isCell}
-use Rattle.table.specs.Audit.{onLength, onValidity}
-use Rattle.table.specs.Calls.{Ground, verdict}
-use Rattle.table.specs.declared.Refusal.the-variants.{NoRoom}
-use Rattle.table.specs.declared.Verdict.{Verdict}
-use Rattle.sketch.specs.Form.{two, four, pieces, dimensions, bodyStart}
+use Rattle.audit.specs.Audit.{grounds}
+use Rattle.calls.specs.Calls.{Ground, verdict}
+use Rattle.calls.specs.declared.Refusal.the-variants.{NoRoom}
+use Rattle.calls.specs.declared.Verdict.{Verdict}
+use Rattle.sketch.specs.Form.{two, four, pieces, bodyStart}
 
 -- the number of live p-cells
 unfoldable pub countOf : List ℕ → ℕ → ℕ
@@ -34,10 +34,7 @@ fileOf t = contentsOf t ++ pieces (bodyOf t) dimensions
 
 abbrev pub writeGrounds : List ℕ → List ℕ → List Ground
 writeGrounds t target =
-    onLength t
-    ∷ onValidity t
-    ∷ record { refusal = NoRoom; applies = ltb (length target) (length (fileOf t)) }
-    ∷ []
+    grounds t (record { refusal = NoRoom; applies = ltb (length target) (length (fileOf t)) } ∷ [])
 
 unfoldable pub writeVerdict : List ℕ → List ℕ → Verdict
 writeVerdict t target = verdict (writeGrounds t target)

@@ -1,16 +1,16 @@
--- Laws of a record as it is read: when a number is a live cell, how many cells a table of the right length has, and that the seven
+-- Laws of a record as it is read: when a number is a live cell, and that the seven
 -- words by value are the record's faces. What carries them: the cases of the tests. Assumes nothing.
 use mathlib.Core.Path.{_≡_, refl, ap, _∙_}
 use mathlib.Core.Bool.{Bool, true, false, _&&_, false≢true}
 use mathlib.Core.List.{List}
-use Prim.Native.Nat.{ℕ, zero, suc, _%_, _≤_, _<_}
+use Prim.Native.Nat.{ℕ, zero, suc, _≤_, _<_}
 use native.Mathlib.Omega.{arith}
-use borrow.Author.Tests.{eq-eqb, le-leb, lt-ltb, le-ltb, leb-true, ltb-true}
+use borrow.Author.Tests.{le-leb, lt-ltb, le-ltb, leb-true, ltb-true}
 use lib.Dec.{leb, ltb}
-use lib.ListN.{length, getD}
+use lib.ListN.{getD}
 use Rattle.counting.proofs.Cases.{and-left, and-right}
-use Rattle.table.specs.Kind.{capacity, top, faces, width}
-use Rattle.table.specs.Table.{cellsOf, dim, face, facesOf, Sized, sizedCells, Live, live}
+use Rattle.table.specs.Kind.{top, faces}
+use Rattle.table.specs.Table.{cellsOf, dim, face, facesOf, Live, live}
 
 pub live-true : (t : List ℕ) (c : ℕ) → live t c ≡ true → Live t c
 unfolding live
@@ -32,9 +32,6 @@ outside-dead t c h = rw (le-ltb c (cellsOf t) h)
 pub inside-live : (t : List ℕ) (c p : ℕ) → c < cellsOf t → p ≡ dim t c → leb p top ≡ live t c
 unfolding live
 inside-live t c p h e = simp (lt-ltb c (cellsOf t) h, e)
-
-pub sized-cells-is : (t : List ℕ) → Sized t → sizedCells t ≡ cellsOf t
-sized-cells-is t s = simp (eq-eqb (length t % width) 0 (omega (arith, s .whole)), le-leb (cellsOf t) capacity (s .room))
 
 seven : (t : List ℕ) (c j : ℕ) → j < faces → getD (facesOf t c) j 0 ≡ face t c j
 seven t c zero h = refl

@@ -1,62 +1,54 @@
 -- Laws of a table that is written down record by record: its size, its dimensions and its faces are those it was given, and a
 -- table is determined by them. Assumes nothing.
 use mathlib.Core.Path.{_≡_, refl, ap, ap₂, sym, subst, _∙_}
-use mathlib.Core.Bool.{Bool, true, false}
-use mathlib.Core.List.{List, [], _∷_}
+use mathlib.Core.List.{List}
 use Prim.Native.Nat.{ℕ, zero, suc, _+_, _-_, _*_, _/_, _%_, _≤_, _<_}
-use native.Mathlib.Nat.{le-of-suc-le-suc, not-suc-le-zero}
 use native.Mathlib.Omega.{arith}
 use borrow.Author.Tests.{eq-eqb, ne-eqb}
 use lib.ListN.{length, getD, replicate, length-replicate, getD-replicate}
 use lib.Seq.{ext-getD}
 use lib.Dec.{eqb}
-use Rattle.counting.specs.Counting.{pick}
+use Rattle.counting.specs.Counting.{pick, listed}
+use Rattle.counting.proofs.Listed.{length-listed, getD-listed}
 use Rattle.table.specs.Kind.{width, faces}
 use Rattle.table.specs.Table.{cellsOf, dim, face}
-use Rattle.table.specs.Words.{listed, wordOf, tableOf}
+use Rattle.table.specs.Records.{Record, recordAt, wordOf, tableOf, Alike}
 
-pub length-listed : (n : ℕ) (f : ℕ → ℕ) → length (listed n f) ≡ n
-unfolding listed
-length-listed zero f = refl
-length-listed (suc n) f = ap suc (length-listed n (λ k. f (suc k)))
+module _ (n : ℕ) (r : ℕ → Record) where
+  pub length-tableOf : length (tableOf n r) ≡ n * width
+  unfolding tableOf
+  length-tableOf = length-listed (n * width) (λ i. wordOf (r (i / width)) (i % width))
 
-pub getD-listed : (n : ℕ) (f : ℕ → ℕ) (i : ℕ) → i < n → getD (listed n f) i 0 ≡ f i
-unfolding listed
-getD-listed zero f i h = absurd (not-suc-le-zero h)
-getD-listed (suc n) f zero h = refl
-getD-listed (suc n) f (suc i) h = getD-listed n (λ k. f (suc k)) i (le-of-suc-le-suc h)
+  pub cellsOf-tableOf : cellsOf (tableOf n r) ≡ n
+  cellsOf-tableOf = omega (arith, length-tableOf)
 
-pub length-tableOf : (n : ℕ) (d : ℕ → ℕ) (f : ℕ → ℕ → ℕ) → length (tableOf n d f) ≡ n * width
-unfolding tableOf
-length-tableOf n d f = length-listed (n * width) (wordOf d f)
-
-pub cellsOf-tableOf : (n : ℕ) (d : ℕ → ℕ) (f : ℕ → ℕ → ℕ) → cellsOf (tableOf n d f) ≡ n
-cellsOf-tableOf n d f = omega (arith, length-tableOf n d f)
-
-module _ (d : ℕ → ℕ) (f : ℕ → ℕ → ℕ) where
-  first-word : (c : ℕ) → wordOf d f (c * width) ≡ d c
+  first-word : (c : ℕ) → wordOf (r (c * width / width)) (c * width % width) ≡ r c .dim
   unfolding wordOf
   first-word c =
-      let r : c * width % width ≡ 0 = omega arith in
+      let k : c * width % width ≡ 0 = omega arith in
       let q : c * width / width ≡ c = omega arith in
-      rw (eq-eqb _ _ r) (ap d q)
+      rw (eq-eqb _ _ k) (ap (λ (s : ℕ). r s .dim) q)
 
-  later-word : (c j : ℕ) → j < faces → wordOf d f (c * width + (1 + j)) ≡ f c j
+  later-word : (c j : ℕ) → j < faces → wordOf (r ((c * width + (1 + j)) / width)) ((c * width + (1 + j)) % width) ≡ r c .face j
   unfolding wordOf
   later-word c j h =
-      let r : ((c * width + (1 + j)) % width ≡ 0) → ⊥ = λ e. omega arith in
+      let k : ((c * width + (1 + j)) % width ≡ 0) → ⊥ = λ e. omega arith in
       let q : (c * width + (1 + j)) / width ≡ c = omega arith in
-      let k : (c * width + (1 + j)) % width - 1 ≡ j = omega arith in
-      rw (ne-eqb _ _ r) (ap₂ f q k)
+      let l : (c * width + (1 + j)) % width - 1 ≡ j = omega arith in
+      rw (ne-eqb _ _ k) (ap₂ (λ (s i : ℕ). r s .face i) q l)
 
-pub dim-tableOf : (n : ℕ) (d : ℕ → ℕ) (f : ℕ → ℕ → ℕ) (c : ℕ) → c < n → dim (tableOf n d f) c ≡ d c
-unfolding tableOf
-dim-tableOf n d f c h = getD-listed (n * width) (wordOf d f) (c * width) (omega arith) ∙ first-word d f c
+  pub dim-tableOf : (c : ℕ) → c < n → dim (tableOf n r) c ≡ r c .dim
+  unfolding tableOf
+  dim-tableOf c h = getD-listed (n * width) (λ i. wordOf (r (i / width)) (i % width)) (c * width) (omega arith) ∙ first-word c
 
-pub face-tableOf : (n : ℕ) (d : ℕ → ℕ) (f : ℕ → ℕ → ℕ) (c j : ℕ) → c < n → j < faces → face (tableOf n d f) c j ≡ f c j
-unfolding tableOf
-face-tableOf n d f c j h hj =
-    getD-listed (n * width) (wordOf d f) (c * width + (1 + j)) (omega arith) ∙ later-word d f c j hj
+  pub face-tableOf : (c j : ℕ) → c < n → j < faces → face (tableOf n r) c j ≡ r c .face j
+  unfolding tableOf
+  face-tableOf c j h hj =
+      getD-listed (n * width) (λ i. wordOf (r (i / width)) (i % width)) (c * width + (1 + j)) (omega arith) ∙ later-word c j hj
+
+  -- record by record
+  pub record-tableOf : (c : ℕ) → c < n → Alike (recordAt (tableOf n r) c) (r c)
+  record-tableOf c h = record { same-dim = dim-tableOf c h; same-face = λ j l. face-tableOf c j h l }
 
 -- what holds at every first word and at every face word of n records holds at every word
 at-words :
@@ -78,15 +70,16 @@ pub each-word :
     ((c j : ℕ) → c < n → j < faces → P (face t c j)) → (i : ℕ) → i < length t → P (getD t i 0)
 each-word P t n e dims sides i h = at-words (λ k. P (getD t k 0)) n dims sides i (omega arith)
 
--- two tables of n cells with the same dimensions and faces are the same words
-pub table-by-records : (t u : List ℕ) (n : ℕ) → length t ≡ n * width → length u ≡ n * width → ((c : ℕ) → c < n → dim t c ≡ dim u c) → ((c j : ℕ) → c < n → j < faces → face t c j ≡ face u c j) → t ≡ u
-table-by-records t u n ht hu hd hf =
-    ext-getD 0 t u (ht ∙ sym hu) (λ i h. at-words (λ k. getD t k 0 ≡ getD u k 0) n hd hf i (omega arith))
+-- two tables of n records that are alike, one by one, are the same words
+pub table-by-records : (t u : List ℕ) (n : ℕ) → length t ≡ n * width → length u ≡ n * width → ((c : ℕ) → c < n → Alike (recordAt t c) (recordAt u c)) → t ≡ u
+table-by-records t u n ht hu same =
+    ext-getD 0 t u (ht ∙ sym hu)
+    (λ i h. at-words (λ k. getD t k 0 ≡ getD u k 0) n (λ c l. same c l .same-dim) (λ c j l k. same c l .same-face j k) i (omega arith))
 
 -- where all words are the same, every dimension and every face is that word
 module _ (m x : ℕ) where
-  pub same-dim : (c : ℕ) → c < cellsOf (replicate m x) → dim (replicate m x) c ≡ x
-  same-dim c h = getD-replicate m (c * width) x 0 (omega (arith, length-replicate {A = ℕ} m x))
+  pub one-dim : (c : ℕ) → c < cellsOf (replicate m x) → dim (replicate m x) c ≡ x
+  one-dim c h = getD-replicate m (c * width) x 0 (omega (arith, length-replicate {A = ℕ} m x))
 
-  pub same-face : (c j : ℕ) → c < cellsOf (replicate m x) → j < faces → face (replicate m x) c j ≡ x
-  same-face c j h l = getD-replicate m (c * width + (1 + j)) x 0 (omega (arith, length-replicate {A = ℕ} m x))
+  pub one-face : (c j : ℕ) → c < cellsOf (replicate m x) → j < faces → face (replicate m x) c j ≡ x
+  one-face c j h l = getD-replicate m (c * width + (1 + j)) x 0 (omega (arith, length-replicate {A = ℕ} m x))

@@ -12,6 +12,10 @@ capacity = 512
 abbrev pub top : ℕ
 top = 6
 
+-- dimensions, from 0 to the largest
+abbrev pub dimensions : ℕ
+dimensions = top + 1
+
 -- face words in a record
 abbrev pub faces : ℕ
 faces = 7

@@ -1,7 +1,3 @@
 pub mod Kind
-pub mod Numbers
-pub mod Calls
 pub mod Table
-pub mod Words
-pub mod Stores
-pub mod Audit
+pub mod Records

@@ -2,13 +2,14 @@
 -- are the only way into the words. And when a table is valid, line by line as it was published.
 -- A reader must believe these definitions; nothing here is proved.
 use mathlib.Core.Path.{_≡_}
-use mathlib.Core.Bool.{Bool, true, false, _&&_}
+use mathlib.Core.Bool.{Bool, true, false, _&&_, not}
 use mathlib.Core.Logic.{_⊎_}
 use mathlib.Core.List.{List, [], _∷_}
 use Prim.Native.Nat.{ℕ, suc, _+_, _-_, _*_, _/_, _%_, _≤_, _<_}
 use lib.ListN.{length, getD}
 use lib.Dec.{leb, ltb, eqb}
-use Rattle.counting.specs.Counting.{pick}
+use Rattle.calls.specs.Calls.{Ground}
+use Rattle.calls.specs.declared.Refusal.the-variants.{Length}
 use Rattle.table.specs.Kind.{capacity, top, faces, width, freeMark, used}
 
 -- how many records the words hold
@@ -34,9 +35,16 @@ pub record Sized (t : List ℕ) : Type 0 where
   pub some : 1 ≤ cellsOf t
   pub room : cellsOf t ≤ capacity
 
--- N where the words are 8·N with N at most 512, and 0 otherwise
-abbrev pub sizedCells : List ℕ → ℕ
-sizedCells t = pick (eqb (length t % width) 0) (pick (leb (cellsOf t) capacity) (cellsOf t) 0) 0
+-- whether they are, and the ground for refusal where they are not
+unfoldable pub sized : List ℕ → Bool
+sized t = eqb (length t % width) 0 && (leb 1 (cellsOf t) && leb (cellsOf t) capacity)
+
+abbrev pub onLength : List ℕ → Ground
+onLength t = record { refusal = Length; applies = not (sized t) }
+
+-- the same for a call that is lent other buffers too: whether their lengths fit
+abbrev pub onLengths : List ℕ → Bool → Ground
+onLengths t fit = record { refusal = Length; applies = not (sized t && fit) }
 
 -- a live cell: inside the table, and with a dimension
 pub record Live (t : List ℕ) (c : ℕ) : Type 0 where

@@ -11,12 +11,12 @@ use lib.ListN.{length, drop}
 use lib.Seq.{sets-eq}
 use lib.Dec.{ltb}
 use Rattle.table.specs.Table.{Valid}
-use Rattle.table.specs.Audit.{auditGrounds}
-use Rattle.table.specs.Calls.{Ground, verdict, Ends}
-use Rattle.table.specs.declared.Refusal.{Refusal}
-use Rattle.table.specs.declared.Refusal.the-variants.{NoRoom}
-use Rattle.table.specs.declared.Verdict.the-variants.{Accepted, Refused}
-use Rattle.audit.proofs.Grounds.{refused-first, accepted-first}
+use Rattle.audit.specs.Audit.{auditGrounds}
+use Rattle.calls.specs.Calls.{Ground, verdict, Ends}
+use Rattle.calls.specs.declared.Refusal.{Refusal}
+use Rattle.calls.specs.declared.Refusal.the-variants.{NoRoom}
+use Rattle.calls.specs.declared.Verdict.the-variants.{Accepted, Refused}
+use Rattle.calls.proofs.Grounds.{refused-first, accepted-first}
 use Rattle.audit.proofs.Valid.{audit-accepts-iff-valid}
 use Rattle.sketch.specs.Written.{fileOf, writeVerdict}
 use Rattle.writer.specs.declared.Written.{Written}

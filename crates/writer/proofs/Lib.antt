@@ -1,4 +1,5 @@
 pub mod Pasting
 pub mod Parts
+pub mod Filling
 pub mod Starts
 pub mod Answers

@@ -19,7 +19,7 @@ sets-append (a ∷ x) y d at =
     sets-append x y (set d at a) (suc at)
     ∙ ap (λ k. sets (sets (set d at a) (suc at) x) k y) (suc-add at (length x) ∙ sym (add-suc at (length x)))
 
-pub put-none : {d : List ℕ} {at : ℕ} → Put d at [] at d
+put-none : {d : List ℕ} {at : ℕ} → Put d at [] at d
 put-none = record { ends = omega arith; same = refl; left = refl }
 
 -- one piece after the other
@@ -36,10 +36,6 @@ pub put-as : {d x y d′ : List ℕ} {at e : ℕ} → x ≡ y → Put d at x e d
 put-as {d} {x} {y} {d′} {at} q a =
     record { ends = a .ends ∙ ap (λ l. at + length l) q; same = a .same; left = a .left ∙ ap (sets d at) q }
 
--- the place and the target under other names
-pub put-here : {d x d′ d″ : List ℕ} {at e e′ : ℕ} → d″ ≡ d′ → e′ ≡ e → Put d at x e d′ → Put d at x e′ d″
-put-here q i a = record { ends = i ∙ a .ends; same = ap length q ∙ a .same; left = q ∙ a .left }
-
 -- the stores of two bytes, and two times two for four
 pub put-two : (d : List ℕ) (at v : ℕ) → Put d at (two v) (at + 2) (set (set d at (v % 256)) (at + 1) (v / 256 % 256))
 unfolding two
@@ -50,10 +46,6 @@ put-two d at v =
 pub two-and-two : (v : ℕ) → two v ++ two (v / 65536) ≡ four v
 unfolding two four
 two-and-two v = rw (div-div-eq-div-mul v 65536 256)
-
--- where two pieces fit, the second does after the first
-pub rest-fits : {d x d′ : List ℕ} {at e : ℕ} (y : List ℕ) → Put d at x e d′ → at + length (x ++ y) ≤ length d → e + length y ≤ length d′
-rest-fits {d} {x} y a h = omega (arith, length-append x y)
 
 module _ (f : ℕ → List ℕ) where
   -- no piece, and one piece more

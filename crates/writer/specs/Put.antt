@@ -2,11 +2,11 @@
 -- No public call's contract cites these.
 use mathlib.Core.Path.{_≡_}
 use mathlib.Core.List.{List, _++_}
-use Prim.Native.Nat.{ℕ, _+_, _*_, _<_}
+use Prim.Native.Nat.{ℕ, _+_, _≤_, _<_}
 use lib.ListN.{length, getD}
 use lib.Seq.{sets}
-use Rattle.table.specs.Kind.{capacity, top}
-use Rattle.sketch.specs.Form.{two, four, dimensions, contentsSize, recordSize}
+use Rattle.table.specs.Kind.{dimensions}
+use Rattle.sketch.specs.Form.{two, four, bodyStart}
 use Rattle.sketch.specs.Written.{countOf}
 
 -- These bytes went into d from place `at` on, which gave d′, and `end` is the place after them.
@@ -19,6 +19,10 @@ pub record Put (d : List ℕ) (at : ℕ) (bytes : List ℕ) (end : ℕ) (d′ : 
 pub record Counted (t counts : List ℕ) : Type 0 where
   pub each : (p : ℕ) → p < dimensions → getD counts p 0 ≡ countOf t p
 
+-- the array has where body p starts, for bodies of these counts, at place p, and the length of the file at the last
+pub record Started (counts : ℕ → ℕ) (starts : List ℕ) : Type 0 where
+  pub each-start : (p : ℕ) → p ≤ dimensions → getD starts p 0 ≡ bodyStart counts p
+
 -- an array's words as a count for each dimension
 abbrev pub inArray : List ℕ → ℕ → ℕ
 inArray counts p = getD counts p 0
@@ -26,7 +30,3 @@ inArray counts p = getD counts p 0
 -- an entry of the contents
 abbrev pub entry : ℕ → ℕ → List ℕ
 entry count start = two count ++ four start
-
--- the most bytes that a file has
-abbrev pub longest : ℕ
-longest = contentsSize + capacity * recordSize top

@@ -3,7 +3,7 @@
 use mathlib.Core.List.{List}
 use Prim.Native.Nat.{ℕ}
 use lib.ListN.{length}
-use Rattle.table.specs.Calls.{onVerdict, leaves}
+use Rattle.calls.specs.Calls.{onVerdict, leaves}
 use Rattle.sketch.specs.Written.{fileOf, writeVerdict, written}
 use Rattle.writer.specs.declared.Written.{Written}
 use Rattle.writer.specs.declared.Written.the-variants.{Bytes, NotWritten}

@@ -1,18 +1,19 @@
-// The sketch file's writer: the contents, then the bodies, into a lent target. The target is filled from the front: every inner
-// function takes the place where it starts and answers the place after its last byte.
+// The sketch file's writer: the contents, then the bodies, into a lent target. Where each body starts is known from the counts, so one
+// pass over the cells fills them all. An inner function takes the place where it starts and answers the place after its last byte.
 ghost use mathlib.Core.Path.{_≡_};
 ghost use Prim.Native.Nat.{_+_, _*_, _≤_, _<_};
 ghost use lib.ListN.{length};
-ghost use Rattle.table.specs.Kind.{top};
-ghost use Rattle.table.specs.Table.{cellsOf, Sized};
-ghost use Rattle.table.specs.Calls.{Ends};
-ghost use Rattle.sketch.specs.Form.{two, four, pieces, dimensions, contentsSize, recordSize, bodyStart};
-ghost use Rattle.sketch.specs.Written.{cellBytes, bodyOf, contentsOf};
-ghost use Rattle.writer.specs.Put.{Put, Counted, inArray, entry, longest};
+ghost use lib.Seq.{sets};
+ghost use Rattle.table.specs.Kind.{top, dimensions};
+ghost use Rattle.table.specs.Table.{cellsOf};
+ghost use Rattle.calls.specs.Calls.{Ends};
+ghost use Rattle.sketch.specs.Form.{two, four, pieces, entrySize, contentsSize, recordSize, bodyStart, longest};
+ghost use Rattle.sketch.specs.Written.{countOf, cellBytes, bodyOf, contentsOf, fileOf};
+ghost use Rattle.writer.specs.Put.{Put, Counted, Started, inArray, entry};
 ghost use Rattle.writer.specs.Write.{writeAnswer, writeLeaves};
-use table::Refusal;
+use calls::Refusal;
+use calls::Verdict;
 use table::Table;
-use table::Verdict;
 
 // The length that was written, or why nothing was.
 pub enum Written {
@@ -20,17 +21,8 @@ pub enum Written {
     NotWritten(Refusal),
 }
 
-// Dimensions, 0 to 6.
-const DIMENSIONS: usize = 7;
-
-// The bytes of the table of contents.
-const CONTENTS: usize = 2 + DIMENSIONS * 6;
-
-// The numbers of the code are those of the definitions.
-fn same_numbers()
-    ensures { λ _. do ⌜ (← ⟦DIMENSIONS⟧ .entry) ≡ dimensions ⌝ }
-    ensures { λ _. do ⌜ (← ⟦CONTENTS⟧ .entry) ≡ contentsSize ⌝ }
-{}
+// The bodies' starts, and the file's length.
+const STARTS: usize = Table::DIMENSIONS + 1;
 
 // A number in 2 bytes, the low byte first.
 fn put_two(target: &mut [u8], at: usize, v: usize) -> usize
@@ -53,7 +45,7 @@ fn put_four(target: &mut [u8], at: usize, offset: usize) -> usize
 
 // An entry of the contents: the count, then where the body starts.
 fn put_entry(target: &mut [u8], at: usize, count: usize, start: usize) -> usize
-    requires { ⌜ at + 6 ≤ length (now target) ⌝ }
+    requires { ⌜ at + entrySize ≤ length (now target) ⌝ }
     ensures { λ r. ⌜ Put (now (target .entry)) at (entry count start) r (now (target .exit)) ⌝ }
 {
     let middle = put_two(target, at, count);
@@ -65,47 +57,34 @@ fn next_start(start: usize, count: usize, p: usize) -> usize
     requires { ⌜ (p ≤ top) × (start + count * recordSize p ≤ longest) ⌝ }
     ensures { λ r. ⌜ r ≡ start + count * recordSize p ⌝ }
 {
-    start + count * (2 + 2 * Table::used(p as u16))
+    start + count * sketch::record_size(p as u16)
 }
 
-// The length of a file with these counts.
-fn file_size(counts: [usize; DIMENSIONS]) -> usize
+// Where the body of each dimension starts, and after them the length of the file.
+fn body_starts(counts: [u16; Table::DIMENSIONS]) -> [usize; STARTS]
     requires { ⌜ bodyStart (inArray counts) dimensions ≤ longest ⌝ }
-    ensures { λ r. ⌜ r ≡ bodyStart (inArray counts) dimensions ⌝ }
+    ensures { λ r. ⌜ Started (inArray counts) r ⌝ }
 {
-    let mut start = CONTENTS;
-    for p in 0..DIMENSIONS {
-        start = next_start(start, counts[p], p);
+    let mut starts = [sketch::CONTENTS; STARTS];
+    for p in 0..Table::DIMENSIONS {
+        starts[p + 1] = next_start(starts[p], counts[p] as usize, p);
     }
-    start
-}
-
-// The live cells of each dimension, in one pass.
-fn count_cells(t: &[u16]) -> [usize; DIMENSIONS]
-    ensures { λ r. ⌜ Counted (now (t .entry)) r ⌝ }
-{
-    let n = Table::room(t);
-    let mut counts = [0; DIMENSIONS];
-    for c in 0..n {
-        let p = Table::dim(t, c) as usize;
-        if p < DIMENSIONS {
-            counts[p] += 1;
-        }
-    }
-    counts
+    starts
 }
 
 // The table of contents: N, then the count and the offset of each dimension.
-fn put_contents(t: &[u16], counts: [usize; DIMENSIONS], target: &mut [u8]) -> usize
-    requires { ⌜ (Sized (now t)) × (Counted (now t) counts) × (length (contentsOf (now t)) ≤ length (now target)) ⌝ }
+fn put_contents(
+    t: &[u16],
+    counts: [u16; Table::DIMENSIONS],
+    starts: [usize; STARTS],
+    target: &mut [u8],
+) -> usize
+    requires { ⌜ (Counted (now t) counts) × (Started (countOf (now t)) starts) × (length (contentsOf (now t)) ≤ length (now target)) ⌝ }
     ensures { λ r. ⌜ Put (now (target .entry)) 0 (contentsOf (now (t .entry))) r (now (target .exit)) ⌝ }
 {
-    let mut offset = CONTENTS;
     let mut end = put_two(target, 0, Table::room(t));
-    for p in 0..DIMENSIONS {
-        let count = counts[p];
-        end = put_entry(target, end, count, offset);
-        offset = next_start(offset, count, p);
+    for p in 0..Table::DIMENSIONS {
+        end = put_entry(target, end, counts[p] as usize, starts[p]);
     }
     end
 }
@@ -123,31 +102,19 @@ fn put_cell(t: &[u16], c: usize, target: &mut [u8], at: usize) -> usize
     end
 }
 
-// The body of dimension p: its cells in rising number.
-fn put_body(t: &[u16], p: usize, target: &mut [u8], at: usize) -> usize
-    requires { ⌜ (p ≤ top) × (at + length (bodyOf (now t) p) ≤ length (now target)) ⌝ }
-    ensures { λ r. ⌜ Put (now (target .entry)) at (bodyOf (now (t .entry)) p) r (now (target .exit)) ⌝ }
+// The bodies, in one pass over the cells: each goes where its body has come to.
+fn put_bodies(t: &[u16], starts: [usize; STARTS], target: &mut [u8])
+    requires { ⌜ (Started (countOf (now t)) starts) × (length (fileOf (now t)) ≤ length (now target)) ⌝ }
+    ensures { λ _. ⌜ now (target .exit) ≡ sets (now (target .entry)) contentsSize (pieces (bodyOf (now (t .entry))) dimensions) ⌝ }
 {
     let cells = Table::room(t);
-    let mut end = at;
+    let mut ends = starts;
     for c in 0..cells {
-        if Table::dim(t, c) as usize == p {
-            end = put_cell(t, c, target, end);
+        let p = Table::dim(t, c) as usize;
+        if p < Table::DIMENSIONS {
+            ends[p] = put_cell(t, c, target, ends[p]);
         }
     }
-    end
-}
-
-// The bodies, in order of dimension.
-fn put_bodies(t: &[u16], target: &mut [u8], at: usize) -> usize
-    requires { ⌜ at + length (pieces (bodyOf (now t)) dimensions) ≤ length (now target) ⌝ }
-    ensures { λ r. ⌜ Put (now (target .entry)) at (pieces (bodyOf (now (t .entry))) dimensions) r (now (target .exit)) ⌝ }
-{
-    let mut end = at;
-    for p in 0..DIMENSIONS {
-        end = put_body(t, p, target, end);
-    }
-    end
 }
 
 // Writes the table as a sketch file and answers its length; no byte after it is touched. Refused with 1, 2, 9, in that order; then
@@ -159,13 +126,15 @@ pub fn write(t: &[u16], target: &mut [u8]) -> Written
     match found {
         Verdict::Refused(r) => Written::NotWritten(r),
         Verdict::Accepted => {
-            let counts = count_cells(t);
-            if target.len() < file_size(counts) {
+            let counts = Table::census(t);
+            let starts = body_starts(counts);
+            let size = starts[Table::DIMENSIONS];
+            if target.len() < size {
                 return Written::NotWritten(Refusal::NoRoom);
             }
-            let at = put_contents(t, counts, target);
-            let end = put_bodies(t, target, at);
-            Written::Bytes(end)
+            put_contents(t, counts, starts, target);
+            put_bodies(t, starts, target);
+            Written::Bytes(size)
         }
     }
 }

@@ -5,6 +5,7 @@ use super::tables::*;
 use crate::call::{Call, Case};
 use crate::model::evidence::reduce;
 use crate::model::reading::LIMIT;
+use crate::model::sketch::LONGEST;
 use crate::model::table::*;
 use crate::random::Random;
 
@@ -55,7 +56,7 @@ pub fn random_call(random: &mut Random, words: &[u16], table: Option<&Table>, pl
                 1 => records - 1,
                 2 => random.below(records),
                 3 => records + 1,
-                4 => 8236,
+                4 => LONGEST,
                 _ => records + random.below(100),
             };
             Call::Write { target: (0..length).map(|_| random.next() as u8).collect() }
@@ -146,7 +147,7 @@ fn incidence(random: &mut Random, room: usize, table: Option<&Table>) -> Call {
 /// A chain in a random dimension: small, large and too large coefficients, sometimes one at another place.
 fn boundary(random: &mut Random, room: usize, table: Option<&Table>) -> Call {
     let dimensions: Vec<usize> = table.map_or(vec![], |t| t.live().map(|(_, cell)| cell.dimension).collect());
-    let mut dimension = random.below(TOP + 1);
+    let mut dimension = random.below(DIMENSIONS);
     if !dimensions.is_empty() && !random.once_in(8) {
         dimension = random.pick(&dimensions);
     }

@@ -84,7 +84,7 @@ impl Comparison {
             }
             Call::Check { .. } => {
                 let holes = ranks::holes(&table).expect("a valid table");
-                let found = outcome.values[7..14].iter();
+                let found = outcome.values[DIMENSIONS..2 * DIMENSIONS].iter();
                 hold(found.eq(holes.map(i64::from).iter()), "the hole numbers are those of the ranks")
             }
             Call::Write { target } => {

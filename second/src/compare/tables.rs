@@ -169,7 +169,7 @@ fn tower(random: &mut Random, room: usize) -> Vec<u16> {
 /// Cells one by one, each with a random list of faces that fits the law.
 fn by_hand(random: &mut Random, room: usize) -> Vec<u16> {
     let mut table = Table { cells: vec![None; room] };
-    let mut levels: Vec<Vec<u16>> = vec![vec![]; TOP + 1];
+    let mut levels: Vec<Vec<u16>> = vec![vec![]; DIMENSIONS];
     let points = random.between(1, 4);
     let wanted = random.between(0, room.min(300));
     let tallest = random.between(0, TOP);

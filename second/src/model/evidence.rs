@@ -6,8 +6,8 @@ use std::collections::{BTreeMap, BTreeSet};
 /// What the checker answers for p = 0 to 6: live cells and hole numbers.
 #[derive(Clone, Copy, Debug, PartialEq, Eq)]
 pub struct Count {
-    pub cells: [u16; 7],
-    pub holes: [u16; 7],
+    pub cells: [u16; DIMENSIONS],
+    pub holes: [u16; DIMENSIONS],
 }
 
 /// A row's boundary mod 2: "a (p−1)-cell is in it when an odd number of (cell in row, face place) pairs name it".
@@ -32,10 +32,10 @@ fn row_words(words: &[u16], evidence: &[u64]) -> Answer<usize> {
 }
 
 /// 01 "The reducer": answers the additions made in each dimension. Refused: 1, 2.
-pub fn reduce(words: &[u16], evidence: &mut [u64]) -> Answer<[u64; 7]> {
+pub fn reduce(words: &[u16], evidence: &mut [u64]) -> Answer<[u64; DIMENSIONS]> {
     let width = row_words(words, evidence)?;
     let table = Table::decode(words)?;
-    let mut additions = [0; 7];
+    let mut additions = [0; DIMENSIONS];
     // The finished rows with a non-empty boundary, by the largest cell of that boundary.
     let mut finished: BTreeMap<u16, BTreeSet<u16>> = BTreeMap::new();
     evidence.fill(0);
@@ -59,7 +59,7 @@ pub fn reduce(words: &[u16], evidence: &mut [u64]) -> Answer<[u64; 7]> {
 pub fn check(words: &[u16], evidence: &[u64]) -> Answer<Count> {
     let width = row_words(words, evidence)?;
     let table = Table::decode(words)?;
-    let mut ranks = [0_u16; 8]; // r_0 to r_7, where r_7 stays 0.
+    let mut ranks = [0_u16; DIMENSIONS + 1]; // r_0 to r_7, where r_7 stays 0.
     let mut largest_seen = BTreeSet::new();
     for (number, bits) in evidence.chunks(width).enumerate() {
         let number = number as u16;
@@ -78,7 +78,7 @@ pub fn check(words: &[u16], evidence: &[u64]) -> Answer<Count> {
     }
     // "b_p = n_p − r_p − r_(p+1)."
     let cells = table.counts();
-    let mut holes = [0; 7];
+    let mut holes = [0; DIMENSIONS];
     for p in 0..=TOP {
         holes[p] = cells[p] - ranks[p] - ranks[p + 1];
     }

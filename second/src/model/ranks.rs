@@ -4,11 +4,11 @@
 use super::table::*;
 
 /// The hole numbers of a table for p = 0 to 6. Refused: 1, 2.
-pub fn holes(words: &[u16]) -> Answer<[u16; 7]> {
+pub fn holes(words: &[u16]) -> Answer<[u16; DIMENSIONS]> {
     room_of(words)?;
     let table = Table::decode(words)?;
     let counts = table.counts();
-    let mut holes = [0; 7];
+    let mut holes = [0; DIMENSIONS];
     for p in 0..=TOP {
         let both = rank(matrix(&table, p)) + rank(matrix(&table, p + 1));
         holes[p] = (counts[p] as usize - both) as u16;

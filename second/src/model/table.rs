@@ -6,6 +6,8 @@ use std::collections::BTreeSet;
 pub const FREE: u16 = 65535;
 /// The largest dimension of a cell.
 pub const TOP: usize = 6;
+/// Dimensions 0 to 6.
+pub const DIMENSIONS: usize = TOP + 1;
 /// The largest N.
 pub const MOST: usize = 512;
 /// Words in a record: the dimension and seven faces.
@@ -157,8 +159,8 @@ impl Table {
     }
 
     /// n_p for p = 0 to 6: the number of live cells of each dimension.
-    pub fn counts(&self) -> [u16; 7] {
-        let mut counts = [0; 7];
+    pub fn counts(&self) -> [u16; DIMENSIONS] {
+        let mut counts = [0; DIMENSIONS];
         for (_, cell) in self.live() {
             counts[cell.dimension] += 1;
         }

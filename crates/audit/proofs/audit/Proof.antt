@@ -1,28 +1,29 @@
--- `audit::audit` meets its contract: the number of cells decides the first ground, and the variant that the search answers the second.
+-- `audit::audit` meets its contract: the length decides the first ground, and the variant that the search answers the second.
 -- Assumes nothing.
 use borrow.Author.Needs.{needs}
 use mathlib.Core.Path.{_≡_, sym, ap, _∙_}
 use mathlib.Core.Bool.{false}
-use Rattle.table.specs.Audit.{isSound, auditGrounds}
-use Rattle.table.specs.Calls.{verdict}
-use Rattle.table.specs.declared.Refusal.the-variants.{Invalid}
-use Rattle.table.specs.declared.Verdict.the-variants.{Refused}
-use Rattle.audit.proofs.Sizes.{sized-is-sized, some-cells}
+use Rattle.audit.specs.Audit.{isSound, auditGrounds}
+use Rattle.calls.specs.Calls.{verdict}
+use Rattle.calls.specs.declared.Refusal.the-variants.{Invalid}
+use Rattle.calls.specs.declared.Verdict.the-variants.{Refused}
+use borrow.Author.Tests.{not-true, not-false}
+use Rattle.table.proofs.Sizes.{sized-is-sized}
 use Rattle.audit.proofs.Verdicts.{audit-refuses-length, audit-accepts, audit-refuses-invalid}
 use Rattle.audit.proofs.audit.Statement.{statement}
 use Rattle.audit.proofs.audit.Tie as tie
 
-of-requires : tie.Need-of-requires
-of-requires c κs = search needs
+fits-requires : tie.Need-fits-requires
+fits-requires c κs = search needs
 
 returns : tie.Need-returns
 returns c =
-    audit-refuses-length (c .before .before .before .args .t .now) (sym (c .before .of .ensures) ∙ c .if1 .taken)
+    audit-refuses-length (c .before .before .before .args .t .now) (sym (c .before .fits2 .ensures) ∙ not-true _ (c .if1 .taken))
 
 first-breach-requires : tie.Need-first-breach-requires
 first-breach-requires c κs =
     let t = c .before .before .before .args .t .now in
-    sized-is-sized t (some-cells t (λ e. c .if1 .left (c .before .of .ensures ∙ e)))
+    sized-is-sized t (sym (c .before .fits2 .ensures) ∙ not-false _ (c .if1 .left))
 
 enum-told : tie.Need-enum-told
 enum-told c = search needs
@@ -40,7 +41,7 @@ returns-2 : tie.Need-returns-2
 returns-2 c =
     let b = c .before .before in
     audit-accepts (b .before .before .before .before .args .t .now)
-    (λ e. b .before .if1 .left (b .before .before .of .ensures ∙ e))
+    (sym (b .before .before .fits2 .ensures) ∙ not-false _ (b .before .if1 .left))
     (ap isSound (sym (b .first-breach .ensures) ∙ c .enum-told .given .1))
 
 -- any other variant is a breach
@@ -49,7 +50,7 @@ refused :
     Refused Invalid ≡ verdict (auditGrounds (c .before .before .before .before .args .t .now))
 refused c e =
     audit-refuses-invalid (c .before .before .before .before .args .t .now)
-    (λ z. c .before .if1 .left (c .before .before .of .ensures ∙ z))
+    (sym (c .before .before .fits2 .ensures) ∙ not-false _ (c .before .if1 .left))
     (ap isSound (sym (c .first-breach .ensures)) ∙ e)
 
 returns-3 : tie.Need-returns-3
@@ -65,7 +66,7 @@ pub audit-spec : {M : Type 1} → statement M
 audit-spec =
     tie.close
     (tie.spec
-    of-requires
+    fits-requires
     returns
     first-breach-requires
     enum-told

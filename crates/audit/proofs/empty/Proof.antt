@@ -6,6 +6,7 @@ use Prim.Native.Nat.{_≤_, _-_}
 use native.Mathlib.Omega.{arith}
 use borrow.Author.Fill.{fill-more}
 use borrow.Author.Needs.{needs}
+use borrow.Author.Tests.{not-true, not-false}
 use lib.ListN.{length, set, replicate, drop}
 use Rattle.table.specs.Kind.{freeMark}
 use Rattle.audit.proofs.Empties.{filled-is-emptied}
@@ -14,19 +15,19 @@ use Rattle.audit.proofs.empty.Statement.{statement}
 use Rattle.audit.proofs.empty.Tie as tie
 
 abbrev Inv-loop : tie.InvT-loop
-Inv-loop t₀ cells k₀ t k = (k ≤ length t₀) × (length t ≡ length t₀) × (t ≡ replicate k freeMark ++ drop k t₀)
+Inv-loop t₀ k₀ t k = (k ≤ length t₀) × (length t ≡ length t₀) × (t ≡ replicate k freeMark ++ drop k t₀)
 
 abbrev μ-loop : tie.MeasureT-loop
-μ-loop t₀ cells k₀ t k = length t₀ - k
+μ-loop t₀ k₀ t k = length t₀ - k
 
-of-requires : tie.Need-of-requires Inv-loop μ-loop
-of-requires c κs = search needs
+fits-requires : tie.Need-fits-requires Inv-loop μ-loop
+fits-requires c κs = search needs
 
 same-length : tie.Need-same-length Inv-loop μ-loop
 same-length c = search needs
 
 returns : tie.Need-returns Inv-loop μ-loop
-returns c = empty-refuses (c .before .before .before .before .args .t .now) (sym (c .before .of .ensures) ∙ c .if1 .taken)
+returns c = empty-refuses (c .before .before .before .before .args .t .now) (sym (c .before .fits2 .ensures) ∙ not-true _ (c .if1 .taken))
 
 loop-holds : tie.Need-loop-holds Inv-loop μ-loop
 loop-holds c = search needs
@@ -50,7 +51,7 @@ same-length-2 : tie.Need-same-length-2 Inv-loop μ-loop
 same-length-2 c = search needs
 
 returns-2 : tie.Need-returns-2 Inv-loop μ-loop
-returns-2 c = let t = c .before .before .before .before .before .before .args .t .now in let at = c .before .loop in empty-accepts t (at .t) (λ e. c .before .before .if1 .left (c .before .before .before .of .ensures ∙ e)) (filled-is-emptied t (at .t) (at .k) (at .inv .0) (omega arith) (at .inv .2))
+returns-2 c = let t = c .before .before .before .before .before .before .args .t .now in let at = c .before .loop in empty-accepts t (at .t) (sym (c .before .before .before .fits2 .ensures) ∙ not-false _ (c .before .before .if1 .left)) (filled-is-emptied t (at .t) (at .k) (at .inv .0) (omega arith) (at .inv .2))
 
 pub empty-spec : {M : Type 1} → statement M
 empty-spec =
@@ -58,7 +59,7 @@ empty-spec =
     (tie.spec
     Inv-loop
     μ-loop
-    of-requires
+    fits-requires
     same-length
     returns
     loop-holds

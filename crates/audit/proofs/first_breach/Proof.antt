@@ -3,49 +3,53 @@
 -- the law below j; Il, every pair of j with a place below l. In each nothing is found yet. The measures, μc to μl: what is left of
 -- each range. Assumes nothing.
 use mathlib.Core.Path.{_≡_, refl, sym, _∙_}
-use Prim.Native.Nat.{_-_, _≤_}
+use Prim.Native.Nat.{_-_}
 use native.Mathlib.Omega.{arith}
 use borrow.Author.Needs.{needs}
 use borrow.Author.Tests.{not-true, not-false}
-use Rattle.table.specs.Audit.{scan, faceBreach, lawBreach, cellBreach}
-use Rattle.table.specs.declared.Breach.the-variants.{Sound}
-use Rattle.audit.proofs.Scans.{scan-zero}
+use Rattle.audit.specs.Audit.{scan, faceBreach, lawBreach, cellBreach}
+use Rattle.audit.specs.declared.Breach.the-variants.{Sound}
+use Rattle.audit.proofs.Scans.{scan-zero, scan-fewer}
+use Rattle.audit.proofs.Places.{law-places-fit}
 use Rattle.audit.proofs.Valid.{lawScan}
-use Rattle.audit.proofs.Passes.{Here, stops-at-record, none-found, stops-outside, stops-at-dim, face-passes, faces-pass, face-known, stops-at-law, pair-passes, place-passes, cell-passes}
+use Rattle.audit.proofs.Passes.{Here, stops-at-record, none-found, stops-outside, stops-at-dim, face-passes, face-known, stops-at-law, pair-passes, place-passes, cell-passes}
 use Rattle.audit.proofs.first_breach.Statement.{statement}
 use Rattle.audit.proofs.first_breach.Tie as tie
 
 abbrev If : tie.InvT-loop
-If t n found₀ c p used places faces j₀ found j =
-    (j ≤ used) × (found ≡ Sound) × Here t n c p used places faces × (scan (faceBreach t c) j ≡ Sound)
+If t n start found₀ c p used places faces j₀ found j =
+    (found ≡ Sound) × Here t n c p used places faces × (scan (faceBreach t c) j ≡ Sound)
 
 abbrev μf : tie.MeasureT-loop
-μf t n found₀ c p used places faces j₀ found j = used - j
+μf t n start found₀ c p used places faces j₀ found j = used - j
 
 abbrev Il : tie.InvT-loop3
-Il t n found₀ c p used places faces j f l₀ found l = (l ≤ j) × (found ≡ Sound) × (scan (lawBreach t c j) l ≡ Sound)
+Il t n start found₀ c p used places faces j f l₀ found l = (found ≡ Sound) × (scan (lawBreach t c j) l ≡ Sound)
 
 abbrev μl : tie.MeasureT-loop3
-μl t n found₀ c p used places faces j f l₀ found l = j - l
+μl t n start found₀ c p used places faces j f l₀ found l = j - l
 
 abbrev Ij : tie.InvT-loop2
-Ij t n found₀ c p used places faces j₀ found j =
-    (j ≤ places) × (found ≡ Sound) × (scan (faceBreach t c) used ≡ Sound) × (scan (lawScan t c) j ≡ Sound)
+Ij t n start found₀ c p used places faces j₀ found j =
+    (found ≡ Sound) × (scan (faceBreach t c) used ≡ Sound) × (scan (lawScan t c) j ≡ Sound)
 
 abbrev μj : tie.MeasureT-loop2
-μj t n found₀ c p used places faces j₀ found j = places - j
+μj t n start found₀ c p used places faces j₀ found j = places - j
 
 abbrev Ic : tie.InvT-cells
-Ic t n found₀ c₀ found c = (c ≤ n) × (found ≡ Sound) × (scan (cellBreach t) c ≡ Sound)
+Ic t n start found₀ c₀ found c = (found ≡ Sound) × (scan (cellBreach t) c ≡ Sound)
 
 abbrev μc : tie.MeasureT-cells
-μc t n found₀ c₀ found c = n - c
+μc t n start found₀ c₀ found c = n - c
 
 room-requires : tie.Need-room-requires If μf Il μl Ij μj Ic μc
 room-requires c κs = search needs
 
+cleared-requires : tie.Need-cleared-requires If μf Il μl Ij μj Ic μc
+cleared-requires c κs = c .room .ensures
+
 cells-holds : tie.Need-cells-holds If μf Il μl Ij μj Ic μc
-cells-holds c = (search needs, refl, scan-zero _)
+cells-holds c = (refl, c .cleared .ensures .1)
 
 record-sound-requires : tie.Need-record-sound-requires If μf Il μl Ij μj Ic μc
 record-sound-requires c κs = search needs
@@ -65,17 +69,20 @@ faces-requires c κs = search needs
 loop-holds : tie.Need-loop-holds If μf Il μl Ij μj Ic μc
 loop-holds c =
     let i = c .before .before .before .before .before .before .before .cells .inv in (
-      search needs,
-      i .1,
+      i .0,
       record {
-        cells = c .before .before .before .before .before .before .before .before .room .ensures;
-        inside = c .before .before .before .before .before .before .cells-test .taken;
-        earlier = i .2;
+        cell = record {
+          cells = c .before .before .before .before .before .before .before .before .before .room .ensures;
+          inside = c .before .before .before .before .before .before .cells-test .taken;
+          dimension = c .before .before .before .dim .ensures;
+          places-used = c .before .before .used .ensures .0;
+          places-law = c .before .law-places .ensures .0;
+          fits = c .before .before .used .ensures .1;
+          fewer = omega (arith, c .before .before .used .ensures .0, c .before .law-places .ensures .0, law-places-fit (c .before .before .before .dim .result));
+          by-value = c .faces .ensures;
+        };
+        earlier = i .1;
         recorded = sym (c .before .before .before .before .before .record-sound .ensures) ∙ not-false _ (c .before .before .before .before .if1 .left);
-        dimension = c .before .before .before .dim .ensures;
-        places-used = c .before .before .used .ensures .0;
-        places-law = c .before .law-places .ensures .0;
-        by-value = c .faces .ensures;
       },
       scan-zero _,
     )
@@ -110,12 +117,12 @@ loop-less c = search needs
 loop-again : tie.Need-loop-again If μf Il μl Ij μj Ic μc
 loop-again c =
     let i = c .before .before .before .before .loop .inv in
-    (search needs, i .1, i .2, face-passes (i .2) _ _ (c .before .before .before .loop-test .taken) (i .3) (c .before .dim2 .ensures) (c .before .before .if2 .left) (c .if3 .left))
+    (i .0, i .1, face-passes (i .1) _ _ (c .before .before .before .loop-test .taken) (i .2) (c .before .dim2 .ensures) (c .before .before .if2 .left) (c .if3 .left))
 
 loop2-holds : tie.Need-loop2-holds If μf Il μl Ij μj Ic μc
 loop2-holds c =
     let i = c .before .loop .inv in
-    (search needs, i .1, faces-pass (i .2) _ (i .0) (c .loop-test .left) (i .3), scan-zero _)
+    (i .0, scan-fewer _ _ _ (c .loop-test .left) (i .2), scan-zero _)
 
 mul-f-2 : tie.Need-mul-f-2 If μf Il μl Ij μj Ic μc
 mul-f-2 c = search needs
@@ -127,7 +134,7 @@ cast-f-2 : tie.Need-cast-f-2 If μf Il μl Ij μj Ic μc
 cast-f-2 c = search needs
 
 loop3-holds : tie.Need-loop3-holds If μf Il μl Ij μj Ic μc
-loop3-holds c = (search needs, c .before .loop2 .inv .1, scan-zero _)
+loop3-holds c = (c .before .loop2 .inv .0, scan-zero _)
 
 mul-e : tie.Need-mul-e If μf Il μl Ij μj Ic μc
 mul-e c = search needs
@@ -139,14 +146,14 @@ cast-e : tie.Need-cast-e If μf Il μl Ij μj Ic μc
 cast-e c = search needs
 
 face-requires : tie.Need-face-requires If μf Il μl Ij μj Ic μc
-face-requires c κs = (face-known (c .before .before .before .before .before .loop .inv .2) (c .before .before .before .loop2 .inv .2) _ (c .before .before .loop2-test .taken), search needs)
+face-requires c κs = (face-known (c .before .before .before .before .before .loop .inv .1) (c .before .before .before .loop2 .inv .1) _ (c .before .before .loop2-test .taken), search needs)
 
 sub-face : tie.Need-sub-face If μf Il μl Ij μj Ic μc
 sub-face c = search needs
 
 face-requires-2 : tie.Need-face-requires-2 If μf Il μl Ij μj Ic μc
 face-requires-2 c κs =
-    let known = face-known (c .before .before .before .before .before .before .loop .inv .2) (c .before .before .before .before .loop2 .inv .2) in
+    let known = face-known (c .before .before .before .before .before .before .loop .inv .1) (c .before .before .before .before .loop2 .inv .1) in
     (omega (arith, known _ (c .before .before .before .loop2-test .taken), known (c .before .before .loop3 .l) (omega arith)), search needs)
 
 add-l : tie.Need-add-l If μf Il μl Ij μj Ic μc
@@ -158,7 +165,7 @@ loop3-less c = search needs
 loop3-again : tie.Need-loop3-again If μf Il μl Ij μj Ic μc
 loop3-again c =
     let i = c .before .before .before .before .loop3 .inv in
-    (search needs, i .1, pair-passes (c .before .before .before .before .before .before .before .before .loop .inv .2) (c .before .before .before .before .before .before .loop2 .inv .2) _ _ _ _ (c .before .before .before .before .before .loop2-test .taken) (c .before .before .before .loop3-test .taken) (i .2) (c .before .before .face .ensures) (c .before .face2 .ensures) (c .if4 .left))
+    (i .0, pair-passes (c .before .before .before .before .before .before .before .before .loop .inv .1) (c .before .before .before .before .before .before .loop2 .inv .1) _ _ _ _ (c .before .before .before .before .before .loop2-test .taken) (c .before .before .before .loop3-test .taken) (i .1) (c .before .before .face .ensures) (c .before .face2 .ensures) (c .if4 .left))
 
 add-j-2 : tie.Need-add-j-2 If μf Il μl Ij μj Ic μc
 add-j-2 c = search needs
@@ -170,7 +177,7 @@ loop2-again : tie.Need-loop2-again If μf Il μl Ij μj Ic μc
 loop2-again c =
     let i = c .before .loop3 .inv in
     let k = c .before .before .before .loop2 .inv in
-    (search needs, i .1, k .2, place-passes _ _ _ _ (i .0) (c .loop3-test .left) (i .2) (k .3))
+    (i .0, k .1, place-passes _ _ _ _ (c .loop3-test .left) (i .1) (k .2))
 
 add-c : tie.Need-add-c If μf Il μl Ij μj Ic μc
 add-c c = search needs
@@ -181,32 +188,32 @@ cells-less c = search needs
 cells-again : tie.Need-cells-again If μf Il μl Ij μj Ic μc
 cells-again c =
     let i = c .before .loop2 .inv in
-    (search needs, i .1, cell-passes (c .before .before .before .loop .inv .2) (i .2) _ (i .0) (c .loop2-test .left) (i .3))
+    (i .0, cell-passes (c .before .before .before .loop .inv .1) (i .1) _ (c .loop2-test .left) (i .2))
 
 returns : tie.Need-returns If μf Il μl Ij μj Ic μc
 returns c =
     let i = c .before .cells .inv in
-    i .1 ∙ none-found _ _ _ (c .before .before .room .ensures) (i .0) (c .cells-test .left) (i .2)
+    i .0 ∙ none-found _ _ _ (c .before .before .before .room .ensures) (c .cells-test .left) (i .1)
 
 returns-2 : tie.Need-returns-2 If μf Il μl Ij μj Ic μc
 returns-2 c =
-    stops-at-record _ _ _ (c .before .before .before .before .room .ensures) (c .before .before .cells-test .taken) (c .before .before .before .cells .inv .2)
+    stops-at-record _ _ _ (c .before .before .before .before .before .room .ensures) (c .before .before .cells-test .taken) (c .before .before .before .cells .inv .1)
     (sym (c .before .record-sound .ensures) ∙ not-true _ (c .if1 .taken))
 
 returns-3 : tie.Need-returns-3 If μf Il μl Ij μj Ic μc
 returns-3 c =
     let i = c .before .before .loop .inv in
-    stops-outside (i .2) _ (c .before .loop-test .taken) (i .3) (c .if2 .taken)
+    stops-outside (i .1) _ (c .before .loop-test .taken) (i .2) (c .if2 .taken)
 
 returns-4 : tie.Need-returns-4 If μf Il μl Ij μj Ic μc
 returns-4 c =
     let i = c .before .before .before .before .loop .inv in
-    stops-at-dim (i .2) _ _ (c .before .before .before .loop-test .taken) (i .3) (c .before .dim2 .ensures) (c .if3 .taken)
+    stops-at-dim (i .1) _ _ (c .before .before .before .loop-test .taken) (i .2) (c .before .dim2 .ensures) (c .if3 .taken)
 
 returns-5 : tie.Need-returns-5 If μf Il μl Ij μj Ic μc
 returns-5 c =
     let k = c .before .before .before .before .before .before .loop2 .inv in
-    stops-at-law (c .before .before .before .before .before .before .before .before .loop .inv .2) (k .2) _ _ _ _ (c .before .before .before .before .before .loop2-test .taken) (c .before .before .before .loop3-test .taken) (c .before .before .before .before .loop3 .inv .2) (c .before .before .face .ensures) (c .before .face2 .ensures) (k .3) (c .if4 .taken)
+    stops-at-law (c .before .before .before .before .before .before .before .before .loop .inv .1) (k .1) _ _ _ _ (c .before .before .before .before .before .loop2-test .taken) (c .before .before .before .loop3-test .taken) (c .before .before .before .before .loop3 .inv .1) (c .before .before .face .ensures) (c .before .face2 .ensures) (k .2) (c .if4 .taken)
 
 pub first-breach-spec : {M : Type 1} → statement M
 first-breach-spec =
@@ -221,6 +228,7 @@ first-breach-spec =
     Ic
     μc
     room-requires
+    cleared-requires
     cells-holds
     record-sound-requires
     dim-requires

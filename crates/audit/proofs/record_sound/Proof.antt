@@ -22,7 +22,7 @@ dim-requires : tie.Need-dim-requires Inv-loop μ-loop
 dim-requires c κs = search needs
 
 returns : tie.Need-returns Inv-loop μ-loop
-returns c = sym (no-kind _ _ _ (c .before .before .dim .ensures) (c .before .if1 .taken) (c .if2 .taken))
+returns c = sym (no-kind _ _ _ (c .before .before .dim .ensures) (omega arith) (c .if2 .taken))
 
 used-requires : tie.Need-used-requires Inv-loop μ-loop
 used-requires c κs = search needs
@@ -36,7 +36,7 @@ face-requires c κs = search needs
 returns-2 : tie.Need-returns-2 Inv-loop μ-loop
 returns-2 c =
     let l = c .before .before .before .loop in
-    sym (not-unused _ _ _ (c .before .before .before .before .before .before .dim .ensures) (l .j) (l .inv .1) (c .before .before .loop-test .taken) (λ e. c .if3 .taken (c .before .face .ensures ∙ e)))
+    sym (not-unused _ _ _ (c .before .before .before .before .before .before .dim .ensures) (l .j) (l .inv .1) (omega arith) (λ e. c .if3 .taken (c .before .face .ensures ∙ e)))
 
 add-j : tie.Need-add-j Inv-loop μ-loop
 add-j c = search needs

@@ -1,13 +1,18 @@
 -- `check` meets its contract: the lengths decide first, then the audit, then the rows. Assumes nothing.
 use mathlib.Core.Path.{_≡_, sym, _∙_}
 use mathlib.Core.Bool.{true}
+use lib.ListN.{length}
 use borrow.Author.Needs.{needs}
 use borrow.Author.Tests.{not-true, not-false}
-use Rattle.table.specs.declared.Refusal.the-variants.{Length}
+use Rattle.calls.specs.declared.Refusal.the-variants.{Length}
+use Rattle.table.specs.Table.{Valid}
+use Rattle.complex.specs.Cells.{cells}
+use Rattle.complex.proofs.Frames.{valid-is-frame}
+use Rattle.rows.specs.Rows.{evidenceWords}
 use Rattle.audit.proofs.Valid.{audit-accepts-iff-valid}
 use Rattle.checker.specs.Row.{lengthsFit}
-use Rattle.checker.proofs.Accepting.{refused-length, audit-refuses, fitting-length}
-use Rattle.checker.proofs.Answers.{refused-checks}
+use Rattle.checker.proofs.Accepting.{refused-length, audit-refuses, fitting-length, rows-answer}
+use Rattle.checker.proofs.Answers.{refused-answer}
 use Rattle.checker.proofs.check.Statement.{statement}
 use Rattle.checker.proofs.check.Tie as tie
 
@@ -21,7 +26,7 @@ returns : tie.Need-returns
 returns c =
     let f = c .before .before in
     let a = f .before .before .before .args in
-    refused-checks (a .t .now) (a .evidence .now) Length _
+    refused-answer (cells (a .t .now)) (a .evidence .now) _ _ Length
     (sym (refused-length (a .t .now) (a .evidence .now) (sym (f .lengths-fit .ensures) ∙ not-true _ (c .before .if1 .taken))))
     (c .refused .ensures .0) (c .refused .ensures .1 .0) (c .refused .ensures .1 .1)
 
@@ -35,11 +40,19 @@ audit-requires c κs = search needs
 enum-told : tie.Need-enum-told
 enum-told c = search needs
 
-check-rows-requires : tie.Need-check-rows-requires
-check-rows-requires c κs =
+-- where the audit accepts the table is valid
+valid : (c : tie.After-enum-told) → Valid (c .before .before .before .before .before .before .before .args .t .now)
+valid c =
     let d = c .before .before in
-    let a = d .before .before .before .before .before .args in
-    (audit-accepts-iff-valid (a .t .now) .0 (sym (d .audit .ensures) ∙ c .enum-told .given .1), fitting-length (a .t .now) (a .evidence .now) (fit (d .before)))
+    audit-accepts-iff-valid (d .before .before .before .before .before .args .t .now) .0 (sym (d .audit .ensures) ∙ c .enum-told .given .1)
+
+long : (c : tie.After-enum-told) → length (c .before .before .before .before .before .before .before .args .evidence .now) ≡ evidenceWords (cells (c .before .before .before .before .before .before .before .args .t .now))
+long c =
+    let d = c .before .before in
+    fitting-length (d .before .before .before .before .before .args .t .now) (d .before .before .before .before .before .args .evidence .now) (fit (d .before))
+
+check-rows-requires : tie.Need-check-rows-requires
+check-rows-requires c κs = (valid-is-frame _ (valid c), long c)
 
 enum-known-valid : tie.Need-enum-known-valid
 enum-known-valid c = search needs
@@ -48,13 +61,13 @@ refused-requires-2 : tie.Need-refused-requires-2
 refused-requires-2 c κs = search needs
 
 returns-2 : tie.Need-returns-2
-returns-2 c = search needs
+returns-2 c = rows-answer _ _ _ (valid (c .before)) (long (c .before)) (c .check-rows .ensures)
 
 returns-3 : tie.Need-returns-3
 returns-3 c =
     let d = c .before .before .before .before in
     let a = d .before .before .before .before .before .args in
-    refused-checks (a .t .now) (a .evidence .now) _ _
+    refused-answer (cells (a .t .now)) (a .evidence .now) _ _ _
     (audit-refuses (a .t .now) (a .evidence .now) _ (fit (d .before)) (sym (c .before .before .valid .given .1) ∙ d .audit .ensures))
     (c .refused2 .ensures .0) (c .refused2 .ensures .1 .0) (c .refused2 .ensures .1 .1)
 

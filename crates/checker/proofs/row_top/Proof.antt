@@ -1,5 +1,6 @@
 -- `row_top` meets its contract: the largest member of the boundary's words is the largest cell of the boundary. Assumes nothing.
 use borrow.Author.Needs.{needs}
+use Rattle.complex.specs.Cells.{cells}
 use Rattle.checker.proofs.LargestMet.{top-number}
 use Rattle.checker.proofs.row_top.Statement.{statement}
 use Rattle.checker.proofs.row_top.Tie as tie
@@ -17,7 +18,7 @@ returns : tie.Need-returns
 returns c =
     let b = c .before .before in
     let a = b .before .before .before in
-    top-number (a .args .t .now) (a .args .evidence .now) (a .pre .0) (a .args .c) _ (c .largest .result) (b .row-boundary .ensures) (c .largest .ensures)
+    top-number (cells (a .args .t .now)) (a .args .evidence .now) (a .pre .0 .lawful) (a .args .c) _ (c .largest .result) (b .row-boundary .ensures) (c .largest .ensures)
 
 pub row-top-spec : {M : Type 1} → statement M
 row-top-spec =

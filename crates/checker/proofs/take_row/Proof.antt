@@ -1,14 +1,16 @@
--- `take_row` meets its contract: rule A decides first, then whether the cell has faces at all, then one look into the set of largest
--- cells met. Assumes nothing.
+-- `take_row` meets its contract: rule A decides first, then whether a cell of the row can have faces at all, then one look into the
+-- set of largest cells met. Assumes nothing.
 use mathlib.Core.Path.{_≡_, refl, sym, ap, _∙_}
 use mathlib.Core.Bool.{true}
 use native.Mathlib.Omega.{arith}
 use borrow.Author.Needs.{needs}
 use borrow.Author.Tests.{not-true, not-false}
-use Rattle.table.specs.Kind.{used}
+use Rattle.complex.specs.View.{viewOf}
+use Rattle.complex.specs.Cells.{cells}
 use Rattle.checker.specs.Check.{keepsA}
 use Rattle.checker.specs.Row.{topNumber}
-use Rattle.checker.proofs.Rules.{kept-row-live, kept-no-places}
+use Rattle.checker.proofs.RowTests.{free-number}
+use Rattle.checker.proofs.Rules.{kept-row-live, free-no-top, point-no-top}
 use Rattle.checker.proofs.LargestMet.{top-fits}
 use Rattle.checker.proofs.take_row.Statement.{statement}
 use Rattle.checker.proofs.take_row.Tie as tie
@@ -20,30 +22,40 @@ returns : tie.Need-returns
 returns c = sym (c .before .keeps-a .ensures) ∙ not-true _ (c .if1 .taken)
 
 -- past the first test the row keeps rule A
-kept : (c : tie.Else1) → keepsA (c .before .before .before .before .before .args .t .now) (c .before .before .before .before .before .args .evidence .now) (c .before .before .before .before .before .args .c) ≡ true
+kept : (c : tie.Else1) → keepsA (cells (c .before .before .before .before .before .before .args .t .now)) (c .before .before .before .before .before .before .args .evidence .now) (c .before .before .before .before .before .before .args .c) ≡ true
 kept c = sym (c .before .keeps-a .ensures) ∙ not-false _ (c .if1 .left)
 
 dim-requires : tie.Need-dim-requires
 dim-requires c κs = search needs
 
-used-requires : tie.Need-used-requires
-used-requires c κs = search needs
-
+-- the row of a point
 returns-2 : tie.Need-returns-2
 returns-2 c =
-    let e = c .before .before .before in
-    let a = e .before .before .before .before .before in (
+    let e = c .before .before in
+    let a = e .before .before .before .before .before .before in (
       kept e,
-      kept-no-places (a .args .t .now) (a .args .evidence .now) (a .pre .1 .0) (a .args .c) (a .pre .1 .1 .0) (kept e)
-          (sym (ap used (c .before .before .dim .ensures)) ∙ sym (c .before .used .ensures .0) ∙ c .if2 .taken),
+      point-no-top (cells (a .args .t .now)) (a .args .evidence .now) (a .pre .1 .0) (a .args .c) (a .pre .1 .1 .0) (a .pre .0 .lawful) (kept e)
+          (omega (arith, c .before .dim .ensures, c .if2 .taken)),
+      refl,
+    )
+
+-- that of a free number
+returns-3 : tie.Need-returns-3
+returns-3 c =
+    let d = c .before .before in
+    let e = d .before in
+    let a = e .before .before .before .before .before .before in (
+      kept e,
+      free-no-top (cells (a .args .t .now)) (a .args .evidence .now) (a .pre .1 .0) (a .args .c) (a .pre .1 .1 .0) (kept e)
+          (free-number (viewOf (a .args .t .now)) (a .pre .0) (a .args .c) (d .dim .result) (d .dim .ensures) (omega (arith, c .if3 .taken))),
       refl,
     )
 
 row-top-requires : tie.Need-row-top-requires
 row-top-requires c κs =
     let e = c .before .before .before in
-    let a = e .before .before .before .before .before in
-    (a .pre .0, (a .pre .1 .0, (a .pre .1 .1 .0, kept-row-live (a .args .t .now) (a .args .evidence .now) (a .pre .1 .0) (a .args .c) (a .pre .1 .1 .0) (kept e))))
+    let a = e .before .before .before .before .before .before in
+    (a .pre .0, (a .pre .1 .0, (a .pre .1 .1 .0, kept-row-live (cells (a .args .t .now)) (a .args .evidence .now) (a .pre .1 .0) (a .args .c) (a .pre .1 .1 .0) (kept e))))
 
 enum-told : tie.Need-enum-told
 enum-told c = search needs
@@ -57,30 +69,30 @@ has-requires c κs = search needs
 same-length : tie.Need-same-length
 same-length c = search needs
 
-returns-3 : tie.Need-returns-3
-returns-3 c =
+returns-4 : tie.Need-returns-4
+returns-4 c =
     let r = c .before .before .before .before .before .before in
-    (kept (r .before .before .before .before), (_, sym (r .row-top .ensures) ∙ ap topNumber (c .before .before .before .before .largest .given .1), sym (c .before .has .ensures) ∙ c .if3 .taken))
+    (kept (r .before .before .before .before), (_, sym (r .row-top .ensures) ∙ ap topNumber (c .before .before .before .before .largest .given .1), sym (c .before .has .ensures) ∙ c .if4 .taken))
 
 toggle-requires : tie.Need-toggle-requires
 toggle-requires c κs =
     let r = c .before .before .before .before .before .before .before in
-    let a = r .before .before .before .before .before .before .before .before .before in
-    omega (arith, top-fits (a .args .t .now) (a .args .evidence .now) (a .pre .0) (a .args .c) _ (sym (r .row-top .ensures) ∙ ap topNumber (c .before .before .before .before .before .largest .given .1)), a .pre .1 .1 .1)
+    let a = r .before .before .before .before .before .before .before .before .before .before in
+    omega (arith, top-fits (cells (a .args .t .now)) (a .args .evidence .now) (a .pre .0 .room) (a .args .c) _ (sym (r .row-top .ensures) ∙ ap topNumber (c .before .before .before .before .before .largest .given .1)), a .pre .1 .1 .1 .0)
 
-returns-4 : tie.Need-returns-4
-returns-4 c =
+returns-5 : tie.Need-returns-5
+returns-5 c =
     let r = c .before .before in
     (kept (r .before .before .before .before), sym (r .row-top .ensures) ∙ ap topNumber (c .enum-told .given .1), refl)
 
 same-length-2 : tie.Need-same-length-2
 same-length-2 c = search needs
 
-returns-5 : tie.Need-returns-5
-returns-5 c =
+returns-6 : tie.Need-returns-6
+returns-6 c =
     let h = c .before .before .before .before .before in
     let r = h .before .before .before .before .before in
-    (kept (r .before .before .before .before), (_, sym (r .row-top .ensures) ∙ ap topNumber (h .before .before .before .largest .given .1), sym (h .has .ensures) ∙ c .before .before .before .before .if3 .left, c .before .before .toggle .ensures))
+    (kept (r .before .before .before .before), (_, sym (r .row-top .ensures) ∙ ap topNumber (h .before .before .before .largest .given .1), sym (h .has .ensures) ∙ c .before .before .before .before .if4 .left, c .before .before .toggle .ensures))
 
 pub take-row-spec : {M : Type 1} → statement M
 take-row-spec =
@@ -89,15 +101,15 @@ take-row-spec =
     keeps-a-requires
     returns
     dim-requires
-    used-requires
     returns-2
+    returns-3
     row-top-requires
     enum-told
     enum-known-largest
     has-requires
     same-length
-    returns-3
-    toggle-requires
     returns-4
+    toggle-requires
+    returns-5
     same-length-2
-    returns-5)
+    returns-6)

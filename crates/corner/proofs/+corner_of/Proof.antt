@@ -41,16 +41,21 @@ cast-face d c = search needs
 face-requires : (d : ℕ) → lts.Need-face-requires (claims d) (Here d) corner-of.Post
 face-requires d c κs = search needs
 
+-- what the function was asked, seen from a cell that is no point
+abbrev asked : (d : ℕ) → lts.Else1 (claims d) (Here d) corner-of.Post → lts.Start (claims d) (Here d) corner-of.Post
+asked d e = e .before .before .before
+
 corner-of-requires : (d : ℕ) → lts.Need-corner-of-requires (claims d) (Here d) corner-of.Post
 corner-of-requires d c κs =
-    let s = c .before .before .before .before .before in
-    lower-asks _ _ _ _ _ _ (s .pre .1 .0) (s .pre .1 .1 .0) (c .before .before .before .dim .ensures) (c .before .before .if1 .left) (s .pre .0) (c .before .if2 .taken)
-    (c .face .ensures)
+    let e = c .before .before in
+    let s = asked d e in
+    lower-asks _ _ _ _ _ _ (s .pre .1 .0) (s .pre .1 .1 .0) (e .before .dim .ensures) (e .if1 .left) (s .pre .0) (c .before .if2 .taken) (c .face .ensures)
 
 returns-2 : (d : ℕ) → lts.Need-returns-2 (claims d) (Here d) corner-of.Post
 returns-2 d c =
-    let s = c .before .before .before .before .before .before in
-    lower-answers _ _ _ _ _ _ (s .pre .1 .0) (s .pre .1 .1 .0) (c .before .before .before .before .dim .ensures) (c .before .before .before .if1 .left) (s .pre .0)
+    let e = c .before .before .before in
+    let s = asked d e in
+    lower-answers _ _ _ _ _ _ (s .pre .1 .0) (s .pre .1 .1 .0) (e .before .dim .ensures) (e .if1 .left) (s .pre .0)
     (c .before .before .if2 .taken) (c .before .face .ensures) _ (c .corner-of .ensures)
 
 face-requires-2 : (d : ℕ) → lts.Need-face-requires-2 (claims d) (Here d) corner-of.Post
@@ -61,13 +66,15 @@ sub-corner-of d c = search needs
 
 corner-of-requires-2 : (d : ℕ) → lts.Need-corner-of-requires-2 (claims d) (Here d) corner-of.Post
 corner-of-requires-2 d c κs =
-    let s = c .before .before .before .before .before in
-    last-asks _ _ _ 0 _ _ (s .pre .1 .0) (s .pre .1 .1 .0) (c .before .before .before .dim .ensures) (c .before .before .if1 .left) (s .pre .0) (c .face2 .ensures)
+    let e = c .before .before in
+    let s = asked d e in
+    last-asks _ _ _ 0 _ _ (s .pre .1 .0) (s .pre .1 .1 .0) (e .before .dim .ensures) (e .if1 .left) (s .pre .0) (c .face2 .ensures)
 
 returns-3 : (d : ℕ) → lts.Need-returns-3 (claims d) (Here d) corner-of.Post
 returns-3 d c =
-    let s = c .before .before .before .before .before .before in
-    last-answers _ _ _ _ _ _ (s .pre .1 .0) (s .pre .1 .1 .0) (c .before .before .before .before .dim .ensures) (c .before .before .before .if1 .left) (s .pre .0)
+    let e = c .before .before .before in
+    let s = asked d e in
+    last-answers _ _ _ _ _ _ (s .pre .1 .0) (s .pre .1 .1 .0) (e .before .dim .ensures) (e .if1 .left) (s .pre .0)
     (c .before .before .if2 .left) (s .pre .1 .1 .1) (c .before .face2 .ensures) _ (c .corner-of2 .ensures)
 
 pub +corner-of-spec : {M : Type 1} → statement M

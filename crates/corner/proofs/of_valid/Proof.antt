@@ -5,7 +5,7 @@ use native.Mathlib.Omega.{arith}
 use borrow.Author.Needs.{needs}
 use borrow.Author.Tests.{not-true, not-false}
 use Rattle.table.specs.Table.{live}
-use Rattle.table.specs.declared.Named.the-variants.{Cell}
+use Rattle.calls.specs.declared.Named.the-variants.{Cell}
 use Rattle.table.proofs.Records.{live-true}
 use Rattle.corner.proofs.CornerAnswers.{dead-refused, past-refused, corner-given}
 use Rattle.corner.proofs.of_valid.Statement.{statement}

@@ -6,7 +6,7 @@ use borrow.Author.Needs.{needs}
 use native.Mathlib.Omega.{arith}
 use lib.ListN.{length, getD-replicate}
 use Rattle.table.specs.Kind.{faces, freeMark}
-use Rattle.merge.proofs.Passes.{partly, partly-start, partly-more, partly-end}
+use Rattle.merge.proofs.Passes.{partly, partly-start, begins-none, partly-more, partly-end}
 use Rattle.merge.proofs.join.Statement.{statement}
 use Rattle.merge.proofs.join.Tie as tie
 
@@ -21,10 +21,14 @@ room-requires : tie.Need-room-requires Inv-loop μ-loop
 room-requires c κs = search needs
 
 loop-holds : tie.Need-loop-holds Inv-loop μ-loop
-loop-holds c = (search needs, search needs, partly-start _ _ _ (c .before .before .before .pre .2))
+loop-holds c =
+    let s = c .before .before .before in
+    (search needs, search needs, partly-start (s .args .kept) (s .args .gone) (s .args .t .now) (s .pre .2 .sized))
 
 rename-requires : tie.Need-rename-requires Inv-loop μ-loop
-rename-requires c κs = omega arith
+rename-requires c κs =
+    let l = c .before .before .loop in
+    (omega arith, begins-none _ _ _ (c .before .before .before .before .before .before .pre .2) (l .c) (l .c) (l .t) (omega arith) (l .inv .2))
 
 add-c : tie.Need-add-c Inv-loop μ-loop
 add-c c = search needs

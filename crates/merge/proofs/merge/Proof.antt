@@ -2,7 +2,7 @@
 -- asked first. Assumes nothing.
 use mathlib.Core.Path.{_≡_, sym, _∙_}
 use native.Mathlib.Omega.{arith}
-use Rattle.table.specs.declared.Verdict.the-variants.{Accepted}
+use Rattle.calls.specs.declared.Verdict.the-variants.{Accepted}
 use Rattle.merge.specs.Merge.{mergeVerdict}
 use Rattle.merge.proofs.Verdicts.{Mergeable, merge-accepted}
 use Rattle.merge.proofs.Answers.{merged-both-ways, ends-refused, ends-accepted}
@@ -32,7 +32,7 @@ mergeable c = merge-accepted _ _ _ (accepted c)
 join-requires : tie.Need-join-requires
 join-requires c κs =
     let m = mergeable (c .before .before) in
-    (c .before .if1 .taken, m .second .inside, m .valid .sized)
+    (c .before .if1 .taken, m .second .inside, m .valid)
 
 same-length : tie.Need-same-length
 same-length c = search needs
@@ -45,7 +45,7 @@ returns c =
 join-requires-2 : tie.Need-join-requires-2
 join-requires-2 c κs =
     let m = mergeable (c .before .before) in
-    (omega (arith, c .before .if1 .left, m .different), m .first .inside, m .valid .sized)
+    (omega (arith, c .before .if1 .left, m .different), m .first .inside, m .valid)
 
 same-length-2 : tie.Need-same-length-2
 same-length-2 c = search needs

@@ -1,6 +1,6 @@
--- `merge::rename` meets its contract. The invariant: the words below l are the record's faces, sent on. The measure: the places left.
--- Assumes nothing.
-use mathlib.Core.Path.{_≡_, ap, _∙_}
+-- `merge::rename` meets its contract: the dimension is not the number that it is compared with, so it stays. The invariant: the words
+-- below l are the record's faces, sent on. The measure: the places left. Assumes nothing.
+use mathlib.Core.Path.{_≡_, sym, ap, _∙_}
 use Prim.Native.Nat.{ℕ, _-_, _≤_, _<_}
 use borrow.Author.Count.{below-none}
 use borrow.Author.Needs.{needs}
@@ -11,7 +11,7 @@ use Rattle.table.specs.Table.{face}
 use Rattle.table.proofs.Records.{faces-at}
 use Rattle.table.proofs.Stores.{stored-alike}
 use Rattle.merge.specs.Writing.{sent}
-use Rattle.merge.proofs.Passes.{words-more}
+use Rattle.merge.proofs.Passes.{words-more, sent-stays}
 use Rattle.merge.proofs.rename.Statement.{statement}
 use Rattle.merge.proofs.rename.Tie as tie
 
@@ -25,6 +25,9 @@ abbrev μ-loop : tie.MeasureT-loop
 dim-requires : tie.Need-dim-requires Inv-loop μ-loop
 dim-requires c κs = search needs
 
+sent-requires : tie.Need-sent-requires Inv-loop μ-loop
+sent-requires c κs = search needs
+
 faces-requires : tie.Need-faces-requires Inv-loop μ-loop
 faces-requires c κs = search needs
 
@@ -37,8 +40,8 @@ mul-sent c = search needs
 array-read-sent : tie.Need-array-read-sent Inv-loop μ-loop
 array-read-sent c = search needs
 
-sent-requires : tie.Need-sent-requires Inv-loop μ-loop
-sent-requires c κs = search needs
+sent-requires-2 : tie.Need-sent-requires-2 Inv-loop μ-loop
+sent-requires-2 c κs = search needs
 
 mul-y : tie.Need-mul-y Inv-loop μ-loop
 mul-y c = search needs
@@ -55,12 +58,12 @@ loop-less c = search needs
 loop-again : tie.Need-loop-again Inv-loop μ-loop
 loop-again c =
     let p = c .before .before in
-    let a = p .before .before .before .before .before .before .args in
+    let a = p .before .before .before .before .before .before .before .args in
     let l = p .loop in (
       search needs,
       simp length-set (search needs),
       words-more _ (l .y) (l .l) _ (search needs)
-          (c .sent .ensures ∙ ap (sent _ _) (faces-at (a .t .now) (a .c) _ (p .before .faces .ensures) (l .l) (search needs)))
+          (c .sent2 .ensures ∙ ap (sent _ _) (faces-at (a .t .now) (a .c) _ (p .before .faces .ensures) (l .l) (search needs)))
           (l .inv .2),
     )
 
@@ -73,7 +76,15 @@ same-length c = search needs
 returns : tie.Need-returns Inv-loop μ-loop
 returns c =
     let p = c .before .before .before .before .before in
-    stored-alike (p .before .before .before .dim .ensures) (λ j h. p .loop .inv .2 j (omega arith)) (c .before .before .put .ensures)
+    let q = p .before .before .before in
+    let read = q .before .dim .ensures in
+    let other = q .before .before .before .before .pre .1 in
+    stored-alike
+    (record {
+      same-dim = q .sent .ensures ∙ sent-stays _ _ _ (λ e. other (sym read ∙ e)) ∙ read;
+      same-face = λ j h. p .loop .inv .2 j (omega arith);
+    })
+    (c .before .before .put .ensures)
 
 pub rename-spec : {M : Type 1} → statement M
 rename-spec =
@@ -82,11 +93,12 @@ rename-spec =
     Inv-loop
     μ-loop
     dim-requires
+    sent-requires
     faces-requires
     loop-holds
     mul-sent
     array-read-sent
-    sent-requires
+    sent-requires-2
     mul-y
     array-write-y
     add-l

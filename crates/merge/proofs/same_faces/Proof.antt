@@ -38,11 +38,6 @@ mul-if1-2 c = search needs
 array-read-if1-2 : tie.Need-array-read-if1-2 Inv-loop μ-loop
 array-read-if1-2 c = search needs
 
-returns : tie.Need-returns Inv-loop μ-loop
-returns c =
-    let p = c .before .before in
-    words-differ _ _ _ _ _ (p .before .before .faces .ensures) (p .before .faces2 .ensures) (p .loop .j) (search needs) (c .if1 .taken)
-
 add-j : tie.Need-add-j Inv-loop μ-loop
 add-j c = search needs
 
@@ -50,7 +45,13 @@ loop-less : tie.Need-loop-less Inv-loop μ-loop
 loop-less c = search needs
 
 loop-again : tie.Need-loop-again Inv-loop μ-loop
-loop-again c = (search needs, below-more _ _ (c .before .before .loop .inv .1) (c .if1 .left))
+loop-again c = (search needs, below-more _ _ (c .before .before .loop .inv .1) (omega arith))
+
+returns : tie.Need-returns Inv-loop μ-loop
+returns c =
+    let p = c .before .before in
+    words-differ _ _ _ _ _ (p .before .before .faces .ensures) (p .before .faces2 .ensures) (p .loop .j) (search needs)
+    (λ e. omega arith)
 
 returns-2 : tie.Need-returns-2 Inv-loop μ-loop
 returns-2 c =

@@ -5,7 +5,8 @@ use Prim.Native.Nat.{ℕ, _+_, _*_, _-_, _≤_, _<_}
 use borrow.Author.Count.{below-none, below-more}
 use borrow.Author.Needs.{needs}
 use native.Mathlib.Omega.{arith}
-use Rattle.sketch.specs.Form.{twoAt, fourAt, dimensions, contentsSize, offsetPlace, bodyStart}
+use Rattle.sketch.specs.Form.{twoAt, fourAt, contentsSize, offsetPlace, bodyStart}
+use Rattle.table.specs.Kind.{dimensions}
 use Rattle.sketch.specs.Read.{countIn}
 use Rattle.sketch.proofs.Sizes.{bodyStart-zero}
 use Rattle.reader.proofs.Contents.{longestBody, body-most, unfit-short, unfit-cells, unfit-offset, unfit-length, fit-all, start-more}
@@ -26,20 +27,17 @@ abbrev μ-loop : tie.MeasureT-loop
 returns : tie.Need-returns Inv-loop μ-loop
 returns c = unfit-short _ (c .before .before .args .file .now) (c .if1 .taken)
 
-two-at-requires : tie.Need-two-at-requires Inv-loop μ-loop
-two-at-requires c κs = search needs
-
-cast-if2 : tie.Need-cast-if2 Inv-loop μ-loop
-cast-if2 c = search needs
+size-in-requires : tie.Need-size-in-requires Inv-loop μ-loop
+size-in-requires c κs = search needs
 
 returns-2 : tie.Need-returns-2 Inv-loop μ-loop
 returns-2 c =
-    unfit-cells _ _ (c .before .two-at .result) (c .before .two-at .ensures) (λ e. omega (arith, e, c .if2 .taken))
+    unfit-cells _ _ (c .before .size-in .result) (c .before .size-in .ensures) (λ e. omega (arith, e, c .if2 .taken))
 
 loop-holds : tie.Need-loop-holds Inv-loop μ-loop
 loop-holds c = (
   search needs,
-  omega (arith, c .before .two-at .ensures, c .if2 .left),
+  omega (arith, c .before .size-in .ensures, c .if2 .left),
   search needs,
   sym (bodyStart-zero (countIn (c .before .before .before .before .args .file .now))),
   below-none _,
@@ -82,13 +80,15 @@ loop-less c = omega arith
 
 loop-again : tie.Need-loop-again Inv-loop μ-loop
 loop-again c =
-    let o = c .before .before .before in
+    let k = c .before in
+    let o = k .before .before in
     let l = o .before .before .loop in (
       omega arith,
       l .inv .1,
       omega (arith, fitting c),
-      start-more _ (l .p) (l .start) _ _ (l .inv .3) (c .before .count-in .ensures) (c .record-size .ensures .0),
-      below-more _ (l .p) (l .inv .4) (omega (arith, o .offset-in .ensures, c .before .before .if3 .left, l .inv .3)),
+      start-more _ (l .p) (l .start) _ _ (l .inv .3) (k .count-in .ensures)
+          (c .record-size .ensures .0),
+      below-more _ (l .p) (l .inv .4) (omega (arith, o .offset-in .ensures, k .before .if3 .left, l .inv .3)),
     )
 
 -- the file that was asked about, seen from the loop's end
@@ -117,8 +117,7 @@ contents-fit-spec =
     Inv-loop
     μ-loop
     returns
-    two-at-requires
-    cast-if2
+    size-in-requires
     returns-2
     loop-holds
     offset-in-requires

@@ -1,6 +1,6 @@
 -- `reader::faces_at` meets its contract. The invariant: the faces below j are those of the file, the others free. The measure: the
 -- faces left. Assumes nothing.
-use mathlib.Core.Path.{_≡_, sym, _∙_}
+use mathlib.Core.Path.{_≡_, sym, ap, _∙_}
 use mathlib.Core.Logic.{⊎-elim}
 use Prim.Native.Nat.{ℕ, _+_, _-_, _≤_, _<_}
 use borrow.Author.Count.{below-none, below-more}
@@ -9,7 +9,7 @@ use borrow.Author.Tests.{lt-ltb, le-ltb}
 use native.Mathlib.Omega.{arith}
 use lib.ListN.{length, getD, getD-replicate}
 use lib.Seq.{getD-set-same, getD-set-other}
-use Rattle.table.specs.Kind.{faces, freeMark, used}
+use Rattle.table.specs.Kind.{faces, freeMark}
 use Rattle.counting.proofs.Cases.{below-or-not}
 use Rattle.sketch.specs.Form.{twoAt, facePlace}
 use Rattle.reader.specs.Taking.{facesAt}
@@ -17,29 +17,23 @@ use Rattle.reader.proofs.faces_at.Statement.{statement}
 use Rattle.reader.proofs.faces_at.Tie as tie
 
 abbrev Inv-loop : tie.InvT-loop
-Inv-loop file p at m r₀ j₀ r j =
+Inv-loop file m at r₀ j₀ r j =
     (j ≤ m)
     × (length r ≡ faces)
     × ((k : ℕ) → k < j → getD r k 0 ≡ twoAt file (at + facePlace k))
     × ((k : ℕ) → j ≤ k → k < faces → getD r k 0 ≡ freeMark)
 
 abbrev μ-loop : tie.MeasureT-loop
-μ-loop file p at m r₀ j₀ r j = m - j
-
-used-requires : tie.Need-used-requires Inv-loop μ-loop
-used-requires c κs = search needs
+μ-loop file m at r₀ j₀ r j = m - j
 
 loop-holds : tie.Need-loop-holds Inv-loop μ-loop
 loop-holds c = (search needs, search needs, below-none _, λ k h l. getD-replicate faces k freeMark 0 l)
 
-mul-two-at : tie.Need-mul-two-at Inv-loop μ-loop
-mul-two-at c = search needs
+face-place-requires : tie.Need-face-place-requires Inv-loop μ-loop
+face-place-requires c κs = search needs
 
 add-two-at : tie.Need-add-two-at Inv-loop μ-loop
 add-two-at c = search needs
-
-add-two-at-2 : tie.Need-add-two-at-2 Inv-loop μ-loop
-add-two-at-2 c = search needs
 
 two-at-requires : tie.Need-two-at-requires Inv-loop μ-loop
 two-at-requires c κs = search needs
@@ -58,11 +52,13 @@ loop-less c = search needs
 
 loop-again : tie.Need-loop-again Inv-loop μ-loop
 loop-again c =
-    let l = c .before .before .loop in (
+    let l = c .before .before .before .loop in
+    let a = c .before .before .before .before .before .args in
+    let place = c .before .face-place .ensures in (
       search needs,
       search needs,
       below-more _ (l .j) (λ k h. getD-set-other (l .r) (l .j) k _ 0 (λ e. omega arith) ∙ l .inv .2 k h)
-          (getD-set-same (l .r) (l .j) _ 0 (omega arith) ∙ c .two-at .ensures),
+          (getD-set-same (l .r) (l .j) _ 0 (omega arith) ∙ c .two-at .ensures ∙ ap (λ k. twoAt (a .file .now) (a .at + k)) place),
       λ k h m. getD-set-other (l .r) (l .j) k _ 0 (λ e. omega arith) ∙ l .inv .3 k (omega arith) m,
     )
 
@@ -70,10 +66,10 @@ returns : tie.Need-returns Inv-loop μ-loop
 unfolding facesAt
 returns c k h =
     let l = c .before .loop in
-    let p = c .before .before .before .before .args .p in
-    let e : l .j ≡ used p = omega arith in
-    ⊎-elim (λ m. l .inv .2 k (omega arith) ∙ sym (rw (lt-ltb k (used p) m))) (λ m. l .inv .3 k (omega arith) h ∙ sym (rw (le-ltb k (used p) m)))
-    (below-or-not k (used p))
+    let m = c .before .before .before .args .used in
+    let e : l .j ≡ m = omega arith in
+    ⊎-elim (λ b. l .inv .2 k (omega arith) ∙ sym (rw (lt-ltb k m b))) (λ b. l .inv .3 k (omega arith) h ∙ sym (rw (le-ltb k m b)))
+    (below-or-not k m)
 
 pub faces-at-spec : {M : Type 1} → statement M
 faces-at-spec =
@@ -81,11 +77,9 @@ faces-at-spec =
     (tie.spec
     Inv-loop
     μ-loop
-    used-requires
     loop-holds
-    mul-two-at
+    face-place-requires
     add-two-at
-    add-two-at-2
     two-at-requires
     mul-r
     array-write-r

@@ -7,7 +7,7 @@ use borrow.Author.Needs.{needs}
 use borrow.Author.Tests.{not-true, not-false}
 use native.Mathlib.Omega.{arith}
 use lib.ListN.{length}
-use Rattle.sketch.specs.Form.{dimensions}
+use Rattle.table.specs.Kind.{dimensions}
 use Rattle.reader.specs.Taking.{Taken}
 use Rattle.reader.proofs.Bodies.{taken-none, bodies-end}
 use Rattle.reader.proofs.take_bodies.Statement.{statement}

@@ -1,176 +1,92 @@
--- `reader::take_body` meets its contract. The invariant: every record below i is taken in, and the next number may be `low` at least.
--- The measure: the records left. Assumes nothing.
-use mathlib.Core.Path.{_≡_, _∙_}
-use mathlib.Core.Bool.{false}
-use Prim.Native.Nat.{_+_, _-_, _≤_, _<_}
+-- `reader::take_body` meets its contract: each arm names the dimension of the body and the number of faces of its cells. What carries
+-- it: one law for every arm, from the arm's number. Assumes nothing.
+use mathlib.Core.Path.{_≡_, refl}
+use mathlib.Core.Bool.{true}
+use Prim.Native.Nat.{ℕ, _<_}
 use borrow.Author.Needs.{needs}
 use native.Mathlib.Omega.{arith}
-use lib.ListN.{length}
-use Rattle.table.specs.Kind.{freeMark}
-use Rattle.table.specs.Table.{cellsOf, dim}
-use Rattle.sketch.specs.Form.{recordSize}
-use Rattle.sketch.specs.Read.{countIn, numbersFit}
-use Rattle.sketch.proofs.Fits.{contents-fit}
-use Rattle.reader.proofs.Contents.{record-inside}
-use Rattle.reader.proofs.Steps.{Going, refused, going-more}
-use Rattle.reader.proofs.Bodies.{body-begins, body-ends}
+use Rattle.table.specs.Kind.{used, dimensions}
+use Rattle.sketch.specs.Read.{contentsFit}
+use Rattle.reader.specs.Taking.{Taken}
 use Rattle.reader.proofs.take_body.Statement.{statement}
 use Rattle.reader.proofs.take_body.Tie as tie
 
-abbrev Inv-loop : tie.InvT-loop
-Inv-loop t₀ file n p count size at₀ low₀ i₀ t at low i = (i ≤ count) × (length t ≡ length t₀) × Going n file p t at low i
+-- where p is k, the arm of k is right
+arm :
+    (s : tie.Start) (k : ℕ) → s .args .p ≡ k →
+    (k < dimensions)
+    × (contentsFit (s .args .n) (s .args .file .now) ≡ true)
+    × (Taken (s .args .n) (s .args .file .now) (s .args .t .now) k 0)
+    × (used k ≡ used k)
+arm s k e = (omega (arith, e, s .pre .0), s .pre .1, rw e at (s .pre .2), refl)
 
-abbrev μ-loop : tie.MeasureT-loop
-μ-loop t₀ file n p count size at₀ low₀ i₀ t at low i = count - i
+take-records-requires : tie.Need-take-records-requires
+take-records-requires c κs = arm (c .before .before .before .before) 0 (c .before .match .keys1)
 
-count-in-requires : tie.Need-count-in-requires Inv-loop μ-loop
-count-in-requires c κs = let s = c .before .before in (contents-fit _ _ (s .pre .1) .long, s .pre .0)
+take-records-requires-2 : tie.Need-take-records-requires-2
+take-records-requires-2 c κs = arm (c .before .before .before .before) 1 (c .before .match .keys2)
 
-record-size-requires : tie.Need-record-size-requires Inv-loop μ-loop
-record-size-requires c κs = search needs
+take-records-requires-3 : tie.Need-take-records-requires-3
+take-records-requires-3 c κs = arm (c .before .before .before .before) 2 (c .before .match .keys3)
 
-offset-in-requires : tie.Need-offset-in-requires Inv-loop μ-loop
-offset-in-requires c κs =
-    let s = c .before .before .before .before in
-    (contents-fit _ _ (s .pre .1) .long, s .pre .0)
+take-records-requires-4 : tie.Need-take-records-requires-4
+take-records-requires-4 c κs = arm (c .before .before .before .before) 3 (c .before .match .keys4)
 
-loop-holds : tie.Need-loop-holds Inv-loop μ-loop
-loop-holds c =
-    let s = c .before .before .before .before .before in (
-      search needs,
-      search needs,
-      body-begins _ _ _ _ _ (c .offset-in .ensures ∙ contents-fit _ _ (s .pre .1) .offset _ (s .pre .0)) (s .pre .2),
-    )
+take-records-requires-5 : tie.Need-take-records-requires-5
+take-records-requires-5 c κs = arm (c .before .before .before .before) 4 (c .before .match .keys5)
 
--- where the function starts, seen from a turn
-abbrev asked : tie.In-loop Inv-loop μ-loop → tie.Start Inv-loop μ-loop
-asked c = c .before .before .before .before .before .before .before
+take-records-requires-6 : tie.Need-take-records-requires-6
+take-records-requires-6 c κs = arm (c .before .before .before .before) 5 (c .before .match .keys6)
 
--- the turn's record is one of the body, so it lies inside the file
-counted : (c : tie.In-loop Inv-loop μ-loop) → c .before .loop .i < countIn (asked c .args .file .now) (asked c .args .p)
-counted c = omega (arith, c .loop-test .taken, c .before .before .before .before .count-in .ensures)
+-- of the dimensions what is left is 6
+take-records-requires-7 : tie.Need-take-records-requires-7
+take-records-requires-7 c κs = arm (c .before .before .before .before) 6 (omega arith)
 
-inside : (c : tie.In-loop Inv-loop μ-loop) → c .before .loop .at + recordSize (asked c .args .p) ≤ length (asked c .args .file .now)
-inside c =
-    let s = asked c in
-    record-inside _ (s .args .n) _ _ _ (s .pre .1) (s .pre .0) (counted c) (c .before .loop .inv .2 .place)
+returns : tie.Need-returns
+returns c = rw (c .before .before .before .before .match .keys1) (c .before .before .take-records .ensures)
 
-two-at-requires : tie.Need-two-at-requires Inv-loop μ-loop
-two-at-requires c κs = omega (arith, inside c)
+returns-2 : tie.Need-returns-2
+returns-2 c = rw (c .before .before .before .before .match .keys2) (c .before .before .take-records2 .ensures)
 
-cast-c : tie.Need-cast-c Inv-loop μ-loop
-cast-c c = search needs
+returns-3 : tie.Need-returns-3
+returns-3 c = rw (c .before .before .before .before .match .keys3) (c .before .before .take-records3 .ensures)
 
--- a number that fails one of the three tests is not in order
-fails :
-    (c : tie.After-two-at Inv-loop μ-loop) →
-    (c .before .before .loop .low ≤ c .two-at .result → c .two-at .result < asked (c .before) .args .n →
-    dim (c .before .before .loop .t) (c .two-at .result) ≡ freeMark → ⊥) →
-    numbersFit (asked (c .before) .args .n) (asked (c .before) .args .file .now) ≡ false
-fails c wrong =
-    let i = c .before in
-    let l = i .before .loop in
-    refused _ _ _ (l .t) (l .at) (l .low) (l .i) (l .inv .2) (asked i .pre .0) (c .two-at .result) (counted i) (c .two-at .ensures) wrong
+returns-4 : tie.Need-returns-4
+returns-4 c = rw (c .before .before .before .before .match .keys4) (c .before .before .take-records4 .ensures)
 
-same-length : tie.Need-same-length Inv-loop μ-loop
-same-length c = search needs
+returns-5 : tie.Need-returns-5
+returns-5 c = rw (c .before .before .before .before .match .keys5) (c .before .before .take-records5 .ensures)
 
-returns : tie.Need-returns Inv-loop μ-loop
-returns c = fails (c .before) (λ low high free. omega (arith, low, c .if1 .taken))
+returns-6 : tie.Need-returns-6
+returns-6 c = rw (c .before .before .before .before .match .keys6) (c .before .before .take-records6 .ensures)
 
-same-length-2 : tie.Need-same-length-2 Inv-loop μ-loop
-same-length-2 c = search needs
-
-returns-2 : tie.Need-returns-2 Inv-loop μ-loop
-returns-2 c = fails (c .before .before) (λ low high free. omega (arith, high, c .if2 .taken))
-
--- a number below n is one of the table's cells
-cell : (c : tie.Else2 Inv-loop μ-loop) → c .before .before .two-at .result < cellsOf (c .before .before .before .before .loop .t)
-cell c = omega (arith, c .if2 .left, c .before .before .before .before .loop .inv .2 .taken .size)
-
-dim-requires : tie.Need-dim-requires Inv-loop μ-loop
-dim-requires c κs = cell (c .before)
-
-same-length-3 : tie.Need-same-length-3 Inv-loop μ-loop
-same-length-3 c = search needs
-
-returns-3 : tie.Need-returns-3 Inv-loop μ-loop
-returns-3 c =
-    fails (c .before .before .before .before .before) (λ low high free. omega (arith, free, c .before .dim .ensures, c .if3 .taken))
-
-faces-at-requires : tie.Need-faces-at-requires Inv-loop μ-loop
-faces-at-requires c κs = inside (c .before .before .before .before .before .before .before)
-
-put-requires : tie.Need-put-requires Inv-loop μ-loop
-put-requires c κs = cell (c .before .before .before .before .before)
-
-add-low : tie.Need-add-low Inv-loop μ-loop
-add-low c = omega arith
-
-add-at : tie.Need-add-at Inv-loop μ-loop
-add-at c =
-    let i = c .before .before .before .before .before .before .before .before .before .before .before in
-    omega (arith, inside i, i .before .before .before .record-size .ensures .0)
-
-add-i : tie.Need-add-i Inv-loop μ-loop
-add-i c = omega arith
-
-loop-less : tie.Need-loop-less Inv-loop μ-loop
-loop-less c = omega arith
-
-loop-again : tie.Need-loop-again Inv-loop μ-loop
-loop-again c =
-    let put = c .before .before .put in
-    let faces = c .before .before .before in
-    let empty = faces .before .before in
-    let high = empty .before .before .before in
-    let a = high .before .before in
-    let i = a .before in
-    let l = i .before .loop in (
-      omega arith,
-      put .ensures .size ∙ l .inv .1,
-      going-more _ _ _ (l .t) (l .at) (l .low) (l .i) (l .inv .2) (asked i .pre .0) (a .two-at .result) _ _ (faces .faces-at .result) (a .two-at .ensures)
-          (high .before .if1 .left)
-          (omega (arith, high .if2 .left))
-          (omega (arith, empty .before .dim .ensures, empty .if3 .left))
-          (i .before .before .before .record-size .ensures .0)
-          (faces .faces-at .ensures)
-          (put .ensures),
-    )
-
-same-length-4 : tie.Need-same-length-4 Inv-loop μ-loop
-same-length-4 c = search needs
-
-returns-4 : tie.Need-returns-4 Inv-loop μ-loop
-returns-4 c =
-    let l = c .before .loop in
-    body-ends _ _ _ _ (l .at) (l .low) (l .i) _ (l .inv .0) (c .loop-test .left) (c .before .before .before .before .count-in .ensures) (l .inv .2)
+returns-7 : tie.Need-returns-7
+returns-7 c =
+    let last : c .before .before .before .before .before .before .before .args .p ≡ 6 = omega arith in
+    rw last (c .before .before .take-records7 .ensures)
 
 pub take-body-spec : {M : Type 1} → statement M
 take-body-spec =
     tie.close
     (tie.spec
-    Inv-loop
-    μ-loop
-    count-in-requires
-    record-size-requires
-    offset-in-requires
-    loop-holds
-    two-at-requires
-    cast-c
-    same-length
+    take-records-requires
+    take-records-requires-2
+    take-records-requires-3
+    take-records-requires-4
+    take-records-requires-5
+    take-records-requires-6
+    take-records-requires-7
+    (λ c. search needs)
     returns
-    same-length-2
+    (λ c. search needs)
     returns-2
-    dim-requires
-    same-length-3
+    (λ c. search needs)
     returns-3
-    faces-at-requires
-    put-requires
-    add-low
-    add-at
-    add-i
-    loop-less
-    loop-again
-    same-length-4
-    returns-4)
+    (λ c. search needs)
+    returns-4
+    (λ c. search needs)
+    returns-5
+    (λ c. search needs)
+    returns-6
+    (λ c. search needs)
+    returns-7)

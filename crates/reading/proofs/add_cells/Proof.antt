@@ -8,8 +8,7 @@ use borrow.Author.Needs.{needs}
 use lib.ListN.{length}
 use Rattle.table.specs.Table.{cellsOf}
 use Rattle.reading.specs.Sums.{integers}
-use Rattle.reading.specs.Boundary.{coefficient}
-use Rattle.reading.specs.Steps.{reached}
+use Rattle.reading.specs.Boundary.{coefficient, reached}
 use Rattle.reading.proofs.AllCells.{none-reached, reached-long, cell-fits-back, cell-added-back, cell-passed, all-reached}
 use Rattle.reading.proofs.Registers.{zero-back}
 use Rattle.reading.proofs.add_cells.Statement.{statement}
@@ -37,7 +36,8 @@ add-cell-requires : tie.Need-add-cell-requires Inv-loop μ-loop
 add-cell-requires c κs =
     let l = c .before .before .before .before in
     let u = l .before in
-    cell-fits-back _ _ _ _ (u .before .before .pre) _ _ (l .loop .inv .2) _ (u .used .ensures .0) (record { sfits = c .before .before .x .given }) (c .before .before .before .loop-test .taken) (c .before .if1 .taken)
+    cell-fits-back _ _ _ _ (u .before .before .pre) _ _ (l .loop .inv .2) _ (record { sfits = c .before .before .x .given }) (c .before .before .before .loop-test .taken) (c .before .if1 .taken)
+    (omega (arith, u .used .ensures .0))
 
 add-c : tie.Need-add-c Inv-loop μ-loop
 add-c c = search needs
@@ -52,7 +52,7 @@ loop-again c =
       omega arith,
       refl,
       ⊎-elim
-          (λ w. cell-added-back _ _ _ _ (u .before .before .pre) _ _ (l .loop .inv .2) _ (u .used .ensures .0) (record { sfits = c .before .x .given }) (c .before .before .loop-test .taken) (w .0 .taken) _ (w .4 ∙ w .2 .ensures))
+          (λ w. cell-added-back _ _ _ _ (u .before .before .pre) _ _ (l .loop .inv .2) _ (record { sfits = c .before .x .given }) (c .before .before .loop-test .taken) (w .0 .taken) (omega (arith, u .used .ensures .0)) _ (w .4 ∙ w .2 .ensures))
           (λ w. w .1 ∙ cell-passed _ _ _ _ (u .before .before .pre) _ _ (l .loop .inv .2) (zero-back _ (record { sfits = c .before .x .given }) (w .0 .left)))
           (c .if1 .came),
     )

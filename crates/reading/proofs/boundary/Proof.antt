@@ -5,8 +5,8 @@ use Rattle.reading.proofs.Judging.{addable, ends-refused, ends-accepted
 use Rattle.reading.proofs.boundary.Statement.{statement}
 use Rattle.reading.proofs.boundary.Tie as tie
 
-judged-requires : tie.Need-judged-requires
-judged-requires c κs = search needs
+judge-requires : tie.Need-judge-requires
+judge-requires c κs = search needs
 
 enum-known-found : tie.Need-enum-known-found
 enum-known-found c = search needs
@@ -20,13 +20,13 @@ clear-requires c κs = search needs
 add-cells-requires : tie.Need-add-cells-requires
 add-cells-requires c κs =
     let k = c .before .before .before .before in
-    addable _ _ _ _ _ _ (k .before .before .judged .ensures) (k .enum-told .given .1) (c .before .before .clear .ensures)
+    addable _ _ _ _ _ _ (k .before .before .judge .ensures) (k .enum-told .given .1) (c .before .before .clear .ensures)
 
 same-length : tie.Need-same-length
 same-length c = search needs
 
 returns : tie.Need-returns
-returns c = ends-refused _ _ _ _ _ _ (c .before .before .before .judged .ensures) (c .before .found .given .1)
+returns c = ends-refused _ _ _ _ _ _ (c .before .before .before .judge .ensures) (c .before .found .given .1)
 
 same-length-2 : tie.Need-same-length-2
 same-length-2 c = search needs
@@ -34,13 +34,13 @@ same-length-2 c = search needs
 returns-2 : tie.Need-returns-2
 returns-2 c =
     let k = c .before .before .before .before .before .before in
-    ends-accepted _ _ _ _ _ _ (k .before .before .judged .ensures) (k .enum-told .given .1) (c .before .add-cells .ensures)
+    ends-accepted _ _ _ _ _ _ (k .before .before .judge .ensures) (k .enum-told .given .1) (c .before .add-cells .ensures)
 
 pub boundary-spec : {M : Type 1} → statement M
 boundary-spec =
     tie.close
     (tie.spec
-    judged-requires
+    judge-requires
     enum-known-found
     enum-told
     clear-requires

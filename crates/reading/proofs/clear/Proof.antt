@@ -1,7 +1,7 @@
 -- `reading::clear` meets its contract. The invariant: every number passed is 0, and the length is kept. The measure: what is left of
 -- the result. Assumes nothing.
 use mathlib.Core.Path.{_≡_, refl}
-use Prim.Native.Nat.{ℕ, _-_, _≤_, _<_}
+use Prim.Native.Nat.{ℕ, _-_, _<_}
 use native.Mathlib.Omega.{arith}
 use native.Mathlib.Nat.{not-suc-le-zero}
 use borrow.Author.Needs.{needs}
@@ -12,13 +12,14 @@ use Rattle.reading.proofs.clear.Statement.{statement}
 use Rattle.reading.proofs.clear.Tie as tie
 
 abbrev Inv-loop : tie.InvT-loop
-Inv-loop result₀ k₀ result k = (k ≤ length result) × (length result ≡ length result₀) × ((u : ℕ) → u < k → getD result u (pos 0) ≡ pos 0)
+Inv-loop result₀ k₀ k-end result k =
+    (k-end ≡ length result₀) × (length result ≡ length result₀) × ((u : ℕ) → u < k → getD result u (pos 0) ≡ pos 0)
 
 abbrev μ-loop : tie.MeasureT-loop
-μ-loop result₀ k₀ result k = length result - k
+μ-loop result₀ k₀ k-end result k = k-end - k
 
 loop-holds : tie.Need-loop-holds Inv-loop μ-loop
-loop-holds c = (search needs, refl, λ u h. absurd (not-suc-le-zero h))
+loop-holds c = (refl, refl, λ u h. absurd (not-suc-le-zero h))
 
 mul-result : tie.Need-mul-result Inv-loop μ-loop
 mul-result c = search needs
@@ -30,18 +31,20 @@ add-k : tie.Need-add-k Inv-loop μ-loop
 add-k c = search needs
 
 loop-less : tie.Need-loop-less Inv-loop μ-loop
-loop-less c = simp length-set (omega arith)
+loop-less c = search needs
 
 loop-again : tie.Need-loop-again Inv-loop μ-loop
 loop-again c =
-    (simp length-set (omega arith), simp length-set (c .before .loop .inv .1), clears-one (c .before .loop .result) (c .before .loop .k) (c .before .loop .inv .2) (c .loop-test .taken))
+    let l = c .before .loop in
+    (refl, simp length-set (l .inv .1), clears-one (l .result) (l .k) (l .inv .2) (omega arith))
 
 same-length : tie.Need-same-length Inv-loop μ-loop
 same-length c = search needs
 
 returns : tie.Need-returns Inv-loop μ-loop
 returns c =
-    all-cleared (c .before .loop .result) (c .before .loop .k) (c .before .loop .inv .2) (length (c .before .before .args .result .now)) (c .before .loop .inv .1) (c .loop-test .left)
+    let l = c .before .loop in
+    all-cleared (l .result) (l .k) (l .inv .2) (length (c .before .before .args .result .now)) (l .inv .1) (omega arith)
 
 pub clear-spec : {M : Type 1} → statement M
 clear-spec =

@@ -1,6 +1,6 @@
 -- `reading::coefficients_small` meets its contract. The invariant: every coefficient passed is small. The measure: what is left of
 -- the chain. Assumes nothing.
-use mathlib.Core.Path.{_≡_, refl}
+use mathlib.Core.Path.{_≡_, refl, _∙_}
 use mathlib.Core.Bool.{true}
 use Prim.Native.Nat.{_-_, _≤_}
 use native.Mathlib.Omega.{arith}
@@ -8,8 +8,8 @@ use borrow.Author.Needs.{needs}
 use borrow.Author.Tests.{not-true, not-false}
 use lib.ListN.{length, getD}
 use lib.IntN.{pos}
-use Rattle.table.specs.Audit.{all}
-use Rattle.reading.proofs.Lists.{all-zero, all-more}
+use Rattle.counting.specs.Counting.{all}
+use Rattle.reading.proofs.Lists.{all-zero, all-keeps}
 use Rattle.reading.proofs.Testing.{small-answer, small-stops, small-ends, smallAt}
 use Rattle.reading.proofs.coefficients_small.Statement.{statement}
 use Rattle.reading.proofs.coefficients_small.Tie as tie
@@ -34,9 +34,10 @@ small-requires c κs = search needs
 
 returns : tie.Need-returns Inv-loop μ-loop
 returns c =
-    let a = c .before .before .before .before .before .args in
-    small-stops (a .chain .now) (c .before .before .before .before .loop .c) (c .before .before .before .loop-test .taken)
-    (small-answer (getD (a .chain .now) (c .before .before .before .before .loop .c) (pos 0)) (c .before .small .result) _ (record { sfits = c .before .before .small-arg .given }) (c .before .small .ensures) (not-true _ (c .if1 .taken)))
+    let l = c .before .before .before .before in
+    let a = l .before .args in
+    small-stops (a .chain .now) (l .loop .c) (c .before .before .before .loop-test .taken)
+    (small-answer (getD (a .chain .now) (l .loop .c) (pos 0)) (c .before .small .result) _ (record { sfits = c .before .before .small-arg .given }) (c .before .small .ensures) (not-true _ (c .if1 .taken)))
 
 add-c : tie.Need-add-c Inv-loop μ-loop
 add-c c = search needs
@@ -46,11 +47,13 @@ loop-less c = search needs
 
 loop-again : tie.Need-loop-again Inv-loop μ-loop
 loop-again c =
-    let a = c .before .before .before .before .before .args in (
+    let l = c .before .before .before .before in
+    let a = l .before .args in (
       omega arith,
       refl,
-      all-more (smallAt (a .chain .now)) (c .before .before .before .before .loop .c) (c .before .before .before .before .loop .inv .2)
-          (small-answer (getD (a .chain .now) (c .before .before .before .before .loop .c) (pos 0)) (c .before .small .result) _ (record { sfits = c .before .before .small-arg .given }) (c .before .small .ensures) (not-false _ (c .if1 .left))),
+      all-keeps (smallAt (a .chain .now)) (l .loop .c)
+          (small-answer (getD (a .chain .now) (l .loop .c) (pos 0)) (c .before .small .result) _ (record { sfits = c .before .before .small-arg .given }) (c .before .small .ensures) (not-false _ (c .if1 .left)))
+          ∙ l .loop .inv .2,
     )
 
 returns-2 : tie.Need-returns-2 Inv-loop μ-loop

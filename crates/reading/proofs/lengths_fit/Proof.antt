@@ -1,20 +1,38 @@
 -- `reading::lengths_fit` meets its contract: each way out decides one of the three lengths. Assumes nothing.
+use mathlib.Core.Path.{_≡_, sym, _∙_}
+use mathlib.Core.Bool.{true}
+use native.Mathlib.Omega.{arith}
 use borrow.Author.Needs.{needs}
+use borrow.Author.Tests.{not-true, not-false}
+use Rattle.table.specs.Table.{sized}
 use Rattle.reading.proofs.Lengths.{no-table, chain-differs, chain-fits}
 use Rattle.reading.proofs.lengths_fit.Statement.{statement}
 use Rattle.reading.proofs.lengths_fit.Tie as tie
 
-of-requires : tie.Need-of-requires
-of-requires c κs = search needs
+fits-requires : tie.Need-fits-requires
+fits-requires c κs = search needs
 
 returns : tie.Need-returns
-returns c = no-table _ _ _ _ (c .before .of .ensures) (c .if1 .taken)
+returns c = no-table _ _ _ (sym (c .before .fits2 .ensures) ∙ not-true _ (c .if1 .taken))
+
+room-requires : tie.Need-room-requires
+room-requires c κs = search needs
+
+-- past the first test the words are a table's
+fitting : (c : tie.Else1) → sized (c .before .before .before .args .t .now) ≡ true
+fitting c = sym (c .before .fits2 .ensures) ∙ not-false _ (c .if1 .left)
 
 returns-2 : tie.Need-returns-2
-returns-2 c = chain-differs _ _ _ _ (c .before .before .of .ensures) (c .before .if1 .left) (c .if2 .taken)
+returns-2 c =
+    let r = c .before in
+    let a = r .before .before .before .before .args in
+    chain-differs _ (a .chain .now) _ (fitting (r .before)) (r .room .result) (r .room .ensures) (λ e. omega (arith, c .if2 .taken))
 
 returns-3 : tie.Need-returns-3
-returns-3 c = chain-fits _ _ _ _ (c .before .before .of .ensures) (c .before .if1 .left) (c .if2 .left)
+returns-3 c =
+    let r = c .before in
+    let a = r .before .before .before .before .args in
+    chain-fits _ (a .chain .now) _ (fitting (r .before)) (r .room .result) (r .room .ensures) (omega (arith, c .if2 .left))
 
 pub lengths-fit-spec : {M : Type 1} → statement M
-lengths-fit-spec = tie.close (tie.spec of-requires returns returns-2 returns-3)
+lengths-fit-spec = tie.close (tie.spec fits-requires returns room-requires returns-2 returns-3)

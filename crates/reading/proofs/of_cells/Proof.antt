@@ -20,11 +20,15 @@ returns c = first-dead _ _ _ (sym (c .before .live .ensures) ∙ not-true _ (c .
 live-requires-2 : tie.Need-live-requires-2
 live-requires-2 c κs = search needs
 
+-- what the function was asked, seen from past the first test
+abbrev asked : tie.Else1 → tie.Start
+asked c = c .before .before .before
+
 -- past the first test s is live, past the second u
-s-lives : (c : tie.Else1) → live (c .before .before .before .args .t .now) (c .before .before .before .args .s) ≡ true
+s-lives : (c : tie.Else1) → live (asked c .args .t .now) (asked c .args .s) ≡ true
 s-lives c = sym (c .before .live .ensures) ∙ not-false _ (c .if1 .left)
 
-u-lives : (c : tie.Else2) → live (c .before .before .before .before .before .args .t .now) (c .before .before .before .before .before .args .u) ≡ true
+u-lives : (c : tie.Else2) → live (asked (c .before .before) .args .t .now) (asked (c .before .before) .args .u) ≡ true
 u-lives c = sym (c .before .live2 .ensures) ∙ not-false _ (c .if2 .left)
 
 returns-2 : tie.Need-returns-2

@@ -34,7 +34,8 @@ faces-requires c κs = search needs
 
 loop-holds : tie.Need-loop-holds Inv-loop μ-loop
 loop-holds c =
-    (search needs, sym (sum-none (placeSign (c .before .before .before .before .args .t .now) (c .before .before .before .before .args .s) (c .before .before .before .before .args .u))))
+    let a = c .before .before .before .before .args in
+    (search needs, sym (sum-none (placeSign (a .t .now) (a .s) (a .u))))
 
 mul-if1 : tie.Need-mul-if1 Inv-loop μ-loop
 mul-if1 c = search needs
@@ -42,29 +43,34 @@ mul-if1 c = search needs
 array-read-if1 : tie.Need-array-read-if1 Inv-loop μ-loop
 array-read-if1 c = search needs
 
+-- what the function was asked, seen from its loop
+abbrev asked : tie.At-loop Inv-loop μ-loop → tie.Start Inv-loop μ-loop
+asked l = l .before .before .before .before .before
+
 -- the place lies within the record, and what was read there is its face
 few : (c : tie.In-loop Inv-loop μ-loop) → c .before .loop .j < faces
 few c = omega (arith, c .loop-test .taken, c .before .before .before .used .ensures .1)
 
 face-is :
     (c : tie.In-loop Inv-loop μ-loop) →
-    getD (c .before .before .faces .result) (c .before .loop .j) 0 ≡ face (c .before .before .before .before .before .before .args .t .now) (c .before .before .before .before .before .before .args .s) (c .before .loop .j)
+    getD (c .before .before .faces .result) (c .before .loop .j) 0 ≡ face (asked (c .before) .args .t .now) (asked (c .before) .args .s) (c .before .loop .j)
 face-is c =
-    let s = c .before .before .before .before .before .before in
-    faces-at (s .args .t .now) (s .args .s) (c .before .before .faces .result) (c .before .before .faces .ensures) (c .before .loop .j) (few c)
+    let a = asked (c .before) .args in
+    let f = c .before .before .faces in
+    faces-at (a .t .now) (a .s) (f .result) (f .ensures) (c .before .loop .j) (few c)
 
 add-sum : tie.Need-add-sum Inv-loop μ-loop
 add-sum c =
     let i = c .before .before in
     let l = i .before in
-    let a = l .before .before .before .before .before .args in
+    let a = asked l .args in
     up-fits (a .t .now) (a .s) (a .u) (toZ w64 (l .loop .sum)) (l .loop .j) _ (few i) (face-is i) (l .loop .inv .1)
 
 sub-sum : tie.Need-sub-sum Inv-loop μ-loop
 sub-sum c =
     let i = c .before .before in
     let l = i .before in
-    let a = l .before .before .before .before .before .args in
+    let a = asked l .args in
     down-fits (a .t .now) (a .s) (a .u) (toZ w64 (l .loop .sum)) (l .loop .j) _ (few i) (face-is i) (l .loop .inv .1)
 
 add-j : tie.Need-add-j Inv-loop μ-loop
@@ -77,7 +83,7 @@ loop-again : tie.Need-loop-again Inv-loop μ-loop
 loop-again c =
     let i = c .before in
     let l = i .before in
-    let a = l .before .before .before .before .before .args in (
+    let a = asked l .args in (
       omega arith,
       ⊎-elim
           (λ w. ap (toZ w64) (w .2) ∙ counts-up (a .t .now) (a .s) (a .u) (toZ w64 (l .loop .sum)) (l .loop .j) _ (few i) (face-is i) (l .loop .inv .1) (w .0 .taken) (w .1 .taken))
@@ -89,8 +95,8 @@ loop-again c =
 
 returns : tie.Need-returns Inv-loop μ-loop
 returns c =
-    let a = c .before .before .before .before .before .before .args in
     let l = c .before in
+    let a = asked l .args in
     all-counted (a .t .now) (a .s) (a .u) (l .loop .j) (l .before .before .used .result) (toZ w64 (l .loop .sum)) (l .before .before .used .ensures .0 ∙ ap used (l .before .before .before .dim .ensures)) (l .loop .inv .0) (c .loop-test .left) (l .loop .inv .1)
 
 pub places-sum-spec : {M : Type 1} → statement M

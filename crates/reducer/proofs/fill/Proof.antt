@@ -8,14 +8,14 @@ use Rattle.reducer.proofs.fill.Tie as tie
 clear-requires : tie.Need-clear-requires
 clear-requires c κs = search needs
 
-room-requires : tie.Need-room-requires
-room-requires c κs = search needs
+size-requires : tie.Need-size-requires
+size-requires c κs = search needs
 
 fill-small-requires : tie.Need-fill-small-requires
 fill-small-requires c κs =
     let a = c .before .before .before .before .before .before .before .before .before in
     let cleared = c .before .before .before .before .before .clear .ensures in
-    (a .pre .0, (cleared .long ∙ a .pre .1, (omega arith, cleared .zero-words)))
+    (a .pre .0, (cleared .long ∙ a .pre .1, (omega arith, cleared .blank)))
 
 same-length : tie.Need-same-length
 same-length c = search needs
@@ -27,7 +27,7 @@ fill-middle-requires : tie.Need-fill-middle-requires
 fill-middle-requires c κs =
     let a = c .before .before .before .before .before .before .before .before .before .before in
     let cleared = c .before .before .before .before .before .before .clear .ensures in
-    (a .pre .0, (cleared .long ∙ a .pre .1, (omega arith, cleared .zero-words)))
+    (a .pre .0, (cleared .long ∙ a .pre .1, (omega arith, cleared .blank)))
 
 same-length-2 : tie.Need-same-length-2
 same-length-2 c = search needs
@@ -39,7 +39,7 @@ fill-large-requires : tie.Need-fill-large-requires
 fill-large-requires c κs =
     let a = c .before .before .before .before .before .before .before .before .before .before in
     let cleared = c .before .before .before .before .before .before .clear .ensures in
-    (a .pre .0, (cleared .long ∙ a .pre .1, cleared .zero-words))
+    (a .pre .0, (cleared .long ∙ a .pre .1, cleared .blank))
 
 same-length-3 : tie.Need-same-length-3
 same-length-3 c = search needs
@@ -52,7 +52,7 @@ fill-spec =
     tie.close
     (tie.spec
     clear-requires
-    room-requires
+    size-requires
     fill-small-requires
     same-length
     returns

@@ -1,6 +1,8 @@
 -- `fill_large` meets its contract: its arrays are large enough for any table, and fresh. Assumes nothing.
 use borrow.Author.Needs.{needs}
 use native.Mathlib.Omega.{arith}
+use Rattle.bitset.specs.Bits.{fullWidth}
+use Rattle.complex.specs.Cells.{cells}
 use Rattle.reducer.proofs.Arrays.{arrays-ready}
 use Rattle.reducer.proofs.fill_large.Statement.{statement}
 use Rattle.reducer.proofs.fill_large.Tie as tie
@@ -14,7 +16,7 @@ slice-aggregate-reduce-rows-2 c = search needs
 reduce-rows-requires : tie.Need-reduce-rows-requires
 reduce-rows-requires c κs =
     let a = c .before .before .before .before .before in
-    (a .pre .0, arrays-ready _ _ 8 4096 512 (a .pre .1 .0) (a .pre .1 .1) (omega (arith, a .pre .0 .sized .room)) (omega arith) (omega arith))
+    (a .pre .0, arrays-ready (cells (a .args .t .now)) _ fullWidth (a .pre .1 .0) (a .pre .1 .1) (omega (arith, a .pre .0 .room)))
 
 same-length : tie.Need-same-length
 same-length c = search needs

@@ -1,6 +1,8 @@
 -- `fill_middle` meets its contract: its arrays are large enough for a table of up to four words to a row, and fresh. Assumes nothing.
 use borrow.Author.Needs.{needs}
 use native.Mathlib.Omega.{arith}
+use Rattle.complex.specs.Cells.{cells}
+use Rattle.reducer.specs.Work.{middleWords}
 use Rattle.reducer.proofs.Arrays.{arrays-ready}
 use Rattle.reducer.proofs.fill_middle.Statement.{statement}
 use Rattle.reducer.proofs.fill_middle.Tie as tie
@@ -14,7 +16,7 @@ slice-aggregate-reduce-rows-2 c = search needs
 reduce-rows-requires : tie.Need-reduce-rows-requires
 reduce-rows-requires c κs =
     let a = c .before .before .before .before .before in
-    (a .pre .0, arrays-ready _ _ 4 1024 256 (a .pre .1 .0) (a .pre .1 .1 .1) (omega (arith, a .pre .1 .1 .0)) (omega arith) (omega arith))
+    (a .pre .0, arrays-ready (cells (a .args .t .now)) _ middleWords (a .pre .1 .0) (a .pre .1 .1 .1) (omega (arith, a .pre .1 .1 .0)))
 
 same-length : tie.Need-same-length
 same-length c = search needs

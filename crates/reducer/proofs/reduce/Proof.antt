@@ -1,7 +1,8 @@
 -- `reduce` meets its contract: a refusal changes nothing, and acceptance says what filling asks. Assumes nothing.
 use borrow.Author.Needs.{needs}
 use mathlib.Core.Path.{_≡_, refl, sym, _∙_}
-use Rattle.table.specs.declared.Verdict.the-variants.{Accepted}
+use Rattle.complex.proofs.Frames.{valid-is-frame}
+use Rattle.calls.specs.declared.Verdict.the-variants.{Accepted}
 use Rattle.reducer.specs.Reduce.{reduceVerdict}
 use Rattle.reducer.proofs.Verdicts.{accepted-valid, accepted-long, accepted-ends, refused-ends}
 use Rattle.reducer.proofs.reduce.Statement.{statement}
@@ -22,7 +23,7 @@ enum-told c = search needs
 
 fill-requires : tie.Need-fill-requires
 fill-requires c κs = let a = c .before .before .before .before .before .before .before in
-    (accepted-valid (a .args .t .now) (a .args .evidence .now) (yes-here (c .before)), accepted-long (a .args .t .now) (a .args .evidence .now) (yes-here (c .before)))
+    (valid-is-frame (a .args .t .now) (accepted-valid (a .args .t .now) (a .args .evidence .now) (yes-here (c .before))), accepted-long (a .args .t .now) (a .args .evidence .now) (yes-here (c .before)))
 
 same-length : tie.Need-same-length
 same-length c = search needs

@@ -1,27 +1,32 @@
 -- `reduce_rows` meets its contract. The invariant: the work after c rows (`Progress`). The measure: the cells left. Assumes nothing.
 use borrow.Author.Needs.{needs}
 use mathlib.Core.Path.{_≡_, _∙_}
+use mathlib.Core.Bool.{true, false}
 use Prim.Native.Nat.{_≤_, _-_}
 use native.Mathlib.Omega.{arith}
 use lib.ListN.{length}
-use Rattle.table.specs.Table.{Live}
+use Rattle.counting.proofs.Cases.{not-true-false}
+use Rattle.complex.specs.Cells.{cells}
 use Rattle.reducer.proofs.Progress.{Progress, progress-first, progress-ready, count-fits, progress-free, progress-live, progress-ends}
 use Rattle.reducer.proofs.reduce_rows.Statement.{statement}
 use Rattle.reducer.proofs.reduce_rows.Tie as tie
 
 abbrev Inv-loop : tie.InvT-loop
 Inv-loop t evidence₀ kept₀ owner₀ n w additions₀ c₀ evidence kept owner additions c =
-    (c ≤ n) × (length evidence ≡ length evidence₀) × (length kept ≡ length kept₀) × (length owner ≡ length owner₀) × Progress t c evidence kept owner additions
+    (c ≤ n) × (length evidence ≡ length evidence₀) × (length kept ≡ length kept₀) × (length owner ≡ length owner₀) × Progress (cells t) c evidence kept owner additions
 
 abbrev μ-loop : tie.MeasureT-loop
 μ-loop t evidence₀ kept₀ owner₀ n w additions₀ c₀ evidence kept owner additions c = n - c
 
--- a cell with a dimension is live
-live-here : (c : tie.Else1 Inv-loop μ-loop) → Live (c .before .before .before .before .before .before .before .before .before .before .args .t .now) (c .before .before .before .loop .c)
-live-here c = record { inside = omega arith; low = omega (arith, c .before .dim .ensures) }
+-- a number with a dimension is live, and one with none is free
+live-here : (c : tie.Else1 Inv-loop μ-loop) → cells (c .before .before .before .before .before .before .before .before .before .before .args .t .now) .live (c .before .before .before .loop .c) ≡ true
+live-here c = c .before .before .before .before .before .before .before .before .before .before .pre .0 .living _ (omega arith) (omega (arith, c .before .dim .ensures))
 
-room-requires : tie.Need-room-requires Inv-loop μ-loop
-room-requires c κs = search needs
+free-here : (c : tie.Then1 Inv-loop μ-loop) → cells (c .before .before .before .before .before .before .before .before .before .before .args .t .now) .live (c .before .before .before .loop .c) ≡ false
+free-here c = not-true-false _ (λ e. omega (arith, c .before .dim .ensures, c .before .before .before .before .before .before .before .before .before .before .pre .0 .low _ e))
+
+size-requires : tie.Need-size-requires Inv-loop μ-loop
+size-requires c κs = search needs
 
 words-for-requires : tie.Need-words-for-requires Inv-loop μ-loop
 words-for-requires c κs = search needs
@@ -29,7 +34,7 @@ words-for-requires c κs = search needs
 loop-holds : tie.Need-loop-holds Inv-loop μ-loop
 loop-holds c =
     let a = c .before .before .before .before .before .before in
-    (search needs, search needs, search needs, search needs, progress-first (a .args .t .now) (a .args .evidence .now) (a .args .kept .now) (a .args .owner .now) (a .pre .1 .0) (a .pre .1 .1))
+    (search needs, search needs, search needs, search needs, progress-first (cells (a .args .t .now)) (a .args .evidence .now) (a .args .kept .now) (a .args .owner .now) (a .pre .1 .0) (a .pre .1 .1))
 
 dim-requires : tie.Need-dim-requires Inv-loop μ-loop
 dim-requires c κs = search needs
@@ -43,13 +48,12 @@ loop-less c = search needs
 loop-again : tie.Need-loop-again Inv-loop μ-loop
 loop-again c =
     let i = c .before .before .before .loop .inv in
-    (search needs, i .1, i .2, i .3, progress-free (i .4) _ (c .before .dim .ensures) (omega arith) (c .if1 .taken))
+    (search needs, i .1, i .2, i .3, progress-free (i .4) (omega arith) (free-here c))
 
 reduce-row-requires : tie.Need-reduce-row-requires Inv-loop μ-loop
-reduce-row-requires c κs = (c .before .before .before .before .before .before .before .before .before .before .before .before .before .pre .0, (live-here (c .before .before .before), (omega arith, progress-ready (c .before .before .before .before .before .before .loop .inv .4) (omega arith))))
-
-cast-at : tie.Need-cast-at Inv-loop μ-loop
-cast-at c = search needs
+reduce-row-requires c κs =
+    let d = c .before .before .before in
+    (d .before .before .before .before .before .before .before .before .before .before .pre .0, (live-here d, (omega arith, progress-ready (d .before .before .before .loop .inv .4) (omega arith))))
 
 mul-additions : tie.Need-mul-additions Inv-loop μ-loop
 mul-additions c = search needs
@@ -60,7 +64,9 @@ array-read-additions c = search needs
 add-additions : tie.Need-add-additions Inv-loop μ-loop
 add-additions c =
     let made = c .before .before .before .before .before .before .reduce-row in
-    omega (arith, count-fits (c .before .before .before .before .before .before .before .before .before .before .before .before .before .loop .inv .4) _ (made .result) (c .before .before .before .before .before .before .before .before .before .before .if1 .left) (omega (arith, c .before .before .before .before .before .before .before .before .before .before .before .before .before .before .before .before .before .before .before .before .pre .0 .sized .room, c .before .before .before .before .before .before .before .before .before .before .before .before .loop-test .taken)) (made .ensures .few))
+    let d = c .before .before .before .before .before .before .before .before .before .before in
+    let fits = count-fits (d .before .before .before .loop .inv .4) (made .result) (omega (arith, d .before .before .before .before .before .before .before .before .before .before .pre .0 .room, d .before .before .loop-test .taken)) (made .ensures .few) in
+    search fits
 
 array-write-additions : tie.Need-array-write-additions Inv-loop μ-loop
 array-write-additions c = search needs
@@ -73,13 +79,14 @@ loop-less-2 c = search needs
 
 loop-again-2 : tie.Need-loop-again-2 Inv-loop μ-loop
 loop-again-2 c =
-    let i = c .before .before .before .before .before .before .before .before .before .before .before .before .before .loop .inv in
-    let made = c .before .before .before .before .before .before .reduce-row in (
+    let made = c .before .before .before .before .before .before .reduce-row in
+    let d = c .before .before .before .before .before .before .before .before .before .before in
+    let i = d .before .before .before .loop .inv in (
       search needs,
       made .kept .1 .1 .1 .0 ∙ i .1,
       made .kept .1 .1 .1 .1 .0 ∙ i .2,
       made .kept .1 .1 .1 .1 .1 .0 ∙ i .3,
-      progress-live (i .4) _ (c .before .before .before .before .before .before .before .before .before .before .before .dim .ensures) (live-here (c .before .before .before .before .before .before .before .before .before .before)) (made .ensures),
+      progress-live (i .4) _ (d .before .dim .ensures) (d .if1 .left) (live-here d) (made .ensures),
     )
 
 same-length : tie.Need-same-length Inv-loop μ-loop
@@ -100,7 +107,7 @@ reduce-rows-spec =
     (tie.spec
     Inv-loop
     μ-loop
-    room-requires
+    size-requires
     words-for-requires
     loop-holds
     dim-requires
@@ -108,7 +115,6 @@ reduce-rows-spec =
     loop-less
     loop-again
     reduce-row-requires
-    cast-at
     mul-additions
     array-read-additions
     add-additions

@@ -5,8 +5,7 @@ use mathlib.Core.Path.{refl}
 use Prim.Native.Nat.{_-_, _≤_}
 use native.Mathlib.Omega.{arith}
 use lib.ListN.{getD}
-use Rattle.table.specs.Kind.{top}
-use Rattle.sketch.specs.Form.{dimensions}
+use Rattle.table.specs.Kind.{top, dimensions}
 use Rattle.report.specs.Lines.{line}
 use Rattle.report.proofs.Growing.{HasLines, no-lines, one-line-more, all-lines}
 use Rattle.report.proofs.lines.Statement.{statement}
@@ -19,7 +18,7 @@ abbrev μ-loop : tie.MeasureT-loop
 μ-loop cells holes r₀ p₀ r p = dimensions - p
 
 loop-holds : tie.Need-loop-holds Inv-loop μ-loop
-loop-holds c = (search needs, no-lines _ _ refl)
+loop-holds c = (search needs, no-lines _ _ refl refl)
 
 cast-push-line : tie.Need-cast-push-line Inv-loop μ-loop
 cast-push-line c = search needs
@@ -57,7 +56,7 @@ loop-again c =
 returns : tie.Need-returns Inv-loop μ-loop
 returns c =
     let i = c .before .loop in
-    (all-lines _ _ (i .p) (i .r) (i .inv .0) (c .loop-test .left) (i .inv .1), omega (arith, i .inv .0, i .inv .1 .short))
+    (all-lines _ _ (i .p) (i .r) (i .inv .0) (c .loop-test .left) (i .inv .1), (omega (arith, i .inv .0, i .inv .1 .short), i .inv .1 .zeros))
 
 pub lines-spec : {M : Type 1} → statement M
 lines-spec =

@@ -1,7 +1,7 @@
 -- `refused` meets its contract: the word, then the number, which has at most two digits. Assumes nothing.
 use mathlib.Core.Path.{refl}
 use native.Mathlib.Omega.{arith}
-use Rattle.table.specs.Numbers.{numberOf}
+use Rattle.calls.specs.Numbers.{numberOf}
 use Rattle.report.proofs.Growing.{number-small, refused-text}
 use borrow.Author.Needs.{needs}
 use Rattle.report.proofs.refused.Statement.{statement}
@@ -47,7 +47,7 @@ returns : tie.Need-returns
 returns c =
     let n = c .before .before in (
       refused-text (n .number .result) (numberOf (n .before .args .why)) (n .number .ensures) refl (c .before .push-number .ensures) (c .push .ensures),
-      omega (arith, c .before .push-number .ensures .short, c .push .ensures .short),
+      (omega (arith, c .before .push-number .ensures .short, c .push .ensures .short), c .push .ensures .zeros (c .before .push-number .ensures .zeros refl)),
     )
 
 pub refused-spec : {M : Type 1} → statement M

@@ -5,7 +5,7 @@ use mathlib.Core.Bool.{false}
 use Prim.Native.Nat.{_*_, _≤_}
 use native.Mathlib.Omega.{arith}
 use Rattle.table.specs.Kind.{capacity, width, freeMark}
-use Rattle.rows.specs.Rows.{boundaryWords}
+use Rattle.bitset.specs.Bits.{fullWidth}
 use Rattle.report.specs.Report.{noSketch}
 use Rattle.report.proofs.Telling.{passes, front-long, words-fit, evidence-long, blank-table, reports-none, reports-told}
 use Rattle.report.proofs.report.Statement.{statement}
@@ -34,7 +34,7 @@ size-in-requires c κs = passes (c .before .before .before .args .file .now) (a-
 few : (c : tie.After-size-in) → c .size-in .result ≤ capacity
 few c = omega (arith, passes (c .before .before .before .before .args .file .now) (a-sketch-here (c .before)) .few, c .size-in .ensures)
 
-rows-few : (c : tie.After-words-for) → c .before .size-in .result * c .words-for .result ≤ capacity * boundaryWords
+rows-few : (c : tie.After-words-for) → c .before .size-in .result * c .words-for .result ≤ capacity * fullWidth
 rows-few c = words-fit (c .before .size-in .result) (c .words-for .result) (few (c .before)) (c .words-for .ensures)
 
 mul-words : tie.Need-mul-words
@@ -56,12 +56,12 @@ array-borrow-prefix-evidence : tie.Need-array-borrow-prefix-evidence
 array-borrow-prefix-evidence c = omega (arith, rows-few (c .before))
 
 slice-aggregate-tell-2 : tie.Need-slice-aggregate-tell-2
-slice-aggregate-tell-2 c = front-long (c .before .before .before .size-in .result * c .before .before .words-for .result) (capacity * boundaryWords) 0 (omega (arith, rows-few (c .before .before)))
+slice-aggregate-tell-2 c = front-long (c .before .before .before .size-in .result * c .before .before .words-for .result) (capacity * fullWidth) 0 (omega (arith, rows-few (c .before .before)))
 
 tell-requires : tie.Need-tell-requires
 tell-requires c κs =
     let w = c .before .before in
-    evidence-long (w .before .size-in .result) (capacity * width) (few (w .before)) (omega arith) (w .words-for .result) (capacity * boundaryWords) (w .words-for .ensures) (omega arith)
+    evidence-long (w .before .size-in .result) (capacity * width) (few (w .before)) (omega arith) (w .words-for .result) (capacity * fullWidth) (w .words-for .ensures) (omega arith)
 
 returns-2 : tie.Need-returns-2
 returns-2 c =

@@ -2,7 +2,7 @@
 use borrow.Author.Needs.{needs}
 use mathlib.Core.Path.{_≡_, sym, _∙_}
 use lib.ListN.{length}
-use Rattle.table.specs.declared.Verdict.the-variants.{Accepted}
+use Rattle.calls.specs.declared.Verdict.the-variants.{Accepted}
 use Rattle.sketch.specs.Read.{readVerdict}
 use Rattle.report.proofs.Telling.{tells-refusal, left-valid, left-words, tells-lines}
 use Rattle.report.proofs.tell.Statement.{statement}

@@ -5,10 +5,10 @@ use Prim.Native.Nat.{ℕ, _+_, _*_, _≤_, _<_, _-_, _^_}
 use native.Mathlib.Omega.{arith}
 use lib.ListN.{length, getD, length-set}
 use borrow.Author.Needs.{needs}
-use Rattle.bitset.specs.Bits.{wordsFor}
-use Rattle.rows.specs.Rows.{boundaryWords, rowWidth, rowOf}
+use Rattle.bitset.specs.Bits.{wordsFor, fullWidth}
+use Rattle.complex.specs.Cells.{cells}
+use Rattle.rows.specs.Rows.{rowWidth, rowOf}
 use Rattle.rows.proofs.Members.{zeros-small}
-use Rattle.table.proofs.Records.{sized-cells-is}
 use Rattle.bitset.proofs.Runs.{Run, run-none, run-more}
 use Rattle.rows.proofs.RowWords.{copied-word, row-width-fits, row-ends, length-rowOf}
 use Rattle.rows.proofs.RowAdding.{WordsAdded, no-words, one-word, all-words, word-of-live-row}
@@ -16,35 +16,35 @@ use Rattle.rows.proofs.row_boundary.Statement.{statement}
 use Rattle.rows.proofs.row_boundary.Tie as tie
 
 abbrev Inv-loop : tie.InvT-loop
-Inv-loop t evidence row width at words₀ k₀ words k = (k ≤ width) × (length words ≡ boundaryWords) × Run 0 k (λ i. getD evidence (at + i) 0) words₀ words
+Inv-loop t evidence row width at words₀ k₀ words k = (k ≤ width) × (length words ≡ fullWidth) × Run 0 k (λ i. getD evidence (at + i) 0) words₀ words
 
 abbrev μ-loop : tie.MeasureT-loop
 μ-loop t evidence row width at words₀ k₀ words k = width - k
 
 abbrev Inv-loop2 : tie.InvT-loop2
 Inv-loop2 t evidence row width at words k b₀ w₀ b w =
-    (w ≤ width) × (length b ≡ boundaryWords) × ((i : ℕ) → getD b i 0 < 2 ^ 64) × WordsAdded t (rowOf t evidence row) w b
+    (w ≤ width) × (length b ≡ fullWidth) × ((i : ℕ) → getD b i 0 < 2 ^ 64) × WordsAdded (cells t) (rowOf (cells t) evidence row) w b
 
 abbrev μ-loop2 : tie.MeasureT-loop2
 μ-loop2 t evidence row width at words k b₀ w₀ b w = width - w
 
-of-requires : tie.Need-of-requires Inv-loop μ-loop Inv-loop2 μ-loop2
-of-requires c κs = search needs
+size-requires : tie.Need-size-requires Inv-loop μ-loop Inv-loop2 μ-loop2
+size-requires c κs = search needs
 
 words-for-requires : tie.Need-words-for-requires Inv-loop μ-loop Inv-loop2 μ-loop2
 words-for-requires c κs = search needs
 
 -- the width that the code goes by is the rows'
-width-is : (c : tie.After-words-for Inv-loop μ-loop Inv-loop2 μ-loop2) → c .words-for .result ≡ rowWidth (c .before .before .before .before .args .t .now)
-width-is c = c .words-for .ensures ∙ ap wordsFor (c .before .of .ensures ∙ sized-cells-is _ (c .before .before .before .before .pre .0 .sized))
+width-is : (c : tie.After-words-for Inv-loop μ-loop Inv-loop2 μ-loop2) → c .words-for .result ≡ rowWidth (cells (c .before .before .before .before .args .t .now))
+width-is c = c .words-for .ensures ∙ ap wordsFor (c .before .size .ensures)
 
 -- the row lies inside the evidence, at most eight words of it
 row-here : (c : tie.After-words-for Inv-loop μ-loop Inv-loop2 μ-loop2)
     → (c .before .before .before .before .args .row * c .words-for .result + c .words-for .result ≤ length (c .before .before .before .before .args .evidence .now))
-    × (c .words-for .result ≤ boundaryWords)
+    × (c .words-for .result ≤ fullWidth)
 row-here c =
     let a = c .before .before .before .before in
-    rw (width-is c) (row-ends (a .args .t .now) (a .args .evidence .now) (a .pre .1 .0) (a .args .row) (a .pre .1 .1 .0), row-width-fits (a .args .t .now) (a .pre .0 .sized))
+    rw (width-is c) (row-ends (cells (a .args .t .now)) (a .args .evidence .now) (a .pre .1 .0) (a .args .row) (a .pre .1 .1 .0), row-width-fits (cells (a .args .t .now)) (a .pre .0 .room))
 
 mul-at : tie.Need-mul-at Inv-loop μ-loop Inv-loop2 μ-loop2
 mul-at c = omega (arith, row-here c .0, c .before .before .before .before .good .1 .0 .0)
@@ -82,7 +82,7 @@ loop-again c =
     )
 
 loop2-holds : tie.Need-loop2-holds Inv-loop μ-loop Inv-loop2 μ-loop2
-loop2-holds c = (search needs, refl, zeros-small boundaryWords, no-words _ _ boundaryWords)
+loop2-holds c = (search needs, refl, zeros-small fullWidth, no-words _ _ fullWidth)
 
 mul-add-word : tie.Need-mul-add-word Inv-loop μ-loop Inv-loop2 μ-loop2
 mul-add-word c = omega (arith, c .loop2-test .taken, row-here (c .before .before .before .before) .1)
@@ -96,17 +96,17 @@ slice-aggregate-add-word c = sym (c .before .before .loop2 .inv .1)
 -- the word read is word w of the row
 word-here : (c : tie.In-loop2 Inv-loop μ-loop Inv-loop2 μ-loop2)
     → getD (c .before .before .before .loop .words) (c .before .loop2 .w) 0
-    ≡ getD (rowOf (c .before .before .before .before .before .before .before .before .args .t .now) (c .before .before .before .before .before .before .before .before .args .evidence .now) (c .before .before .before .before .before .before .before .before .args .row)) (c .before .loop2 .w) 0
+    ≡ getD (rowOf (cells (c .before .before .before .before .before .before .before .before .args .t .now)) (c .before .before .before .before .before .before .before .before .args .evidence .now) (c .before .before .before .before .before .before .before .before .args .row)) (c .before .loop2 .w) 0
 word-here c =
     let a = c .before .before .before .before .before .before .before .before .args in
     let f = c .before .before .before .before in
     let l = c .before .before .before .loop in
-    copied-word (a .t .now) (a .evidence .now) (a .row) _ (l .k) _ (l .words) (width-is f) (c .before .before .loop-test .left) (l .inv .2) (c .before .loop2 .w) (c .loop2-test .taken)
+    copied-word (cells (a .t .now)) (a .evidence .now) (a .row) _ (l .k) _ (l .words) (width-is f) (c .before .before .loop-test .left) (l .inv .2) (c .before .loop2 .w) (omega (arith, c .loop2-test .taken))
 
 add-word-requires : tie.Need-add-word-requires Inv-loop μ-loop Inv-loop2 μ-loop2
 add-word-requires c κs =
     let a = c .before .before .before .before .before .before .before .before .before in
-    (a .pre .0, (word-of-live-row (a .args .t .now) (a .args .evidence .now) (a .args .row) (c .before .before .loop2 .w) _ (a .pre .1 .1 .1) (word-here (c .before)), c .before .before .loop2 .inv .1))
+    (a .pre .0, (word-of-live-row (cells (a .args .t .now)) (a .args .evidence .now) (a .args .row) (c .before .before .loop2 .w) _ (a .pre .1 .1 .1) (word-here (c .before)), c .before .before .loop2 .inv .1))
 
 add-w : tie.Need-add-w Inv-loop μ-loop Inv-loop2 μ-loop2
 add-w c = search needs
@@ -129,8 +129,8 @@ returns : tie.Need-returns Inv-loop μ-loop Inv-loop2 μ-loop2
 returns c =
     let a = c .before .before .before .before .before .before .before .before in
     let l = c .before .loop2 in
-    all-words (a .args .t .now) (a .args .evidence .now) (a .args .row) (l .w) (l .b) (l .inv .1) (l .inv .2)
-    (omega (arith, c .loop2-test .left, width-is (c .before .before .before .before), length-rowOf (a .args .t .now) (a .args .evidence .now) (a .pre .1 .0) (a .args .row) (a .pre .1 .1 .0)))
+    all-words (cells (a .args .t .now)) (a .args .evidence .now) (a .args .row) (l .w) (l .b) (l .inv .1) (l .inv .2)
+    (omega (arith, c .loop2-test .left, width-is (c .before .before .before .before), length-rowOf (cells (a .args .t .now)) (a .args .evidence .now) (a .pre .1 .0) (a .args .row) (a .pre .1 .1 .0)))
     (l .inv .3)
 
 pub row-boundary-spec : {M : Type 1} → statement M
@@ -141,7 +141,7 @@ row-boundary-spec =
     μ-loop
     Inv-loop2
     μ-loop2
-    of-requires
+    size-requires
     words-for-requires
     mul-at
     loop-holds

@@ -33,14 +33,18 @@ face-requires c κs = search needs
 named-below-requires : tie.Need-named-below-requires Inv-loop μ-loop
 named-below-requires c κs = search needs
 
+-- what the function was asked, seen from its loop
+abbrev asked : tie.At-loop Inv-loop μ-loop → tie.Start Inv-loop μ-loop
+asked l = l .before .before .before .before .before
+
 -- the places are those of the cell, and a face that is read lies inside
 places : (c : tie.After-used Inv-loop μ-loop) → c .used .result ≡ usedOf (dim (c .before .before .before .before .args .t .now) (c .before .before .before .before .args .c))
 places c = c .used .ensures .0 ∙ ap usedOf (c .before .dim .ensures)
 
-inside : (c : tie.After-face Inv-loop μ-loop) → c .face .result < cellsOf (c .before .before .before .before .before .before .before .args .t .now)
+inside : (c : tie.After-face Inv-loop μ-loop) → c .face .result < cellsOf (asked (c .before .before) .args .t .now)
 inside c =
     let l = c .before .before in
-    let s = l .before .before .before .before .before in
+    let s = asked l in
     face-in _ (s .pre .0) _ (l .loop .j) _ (s .pre .1) (omega (arith, c .before .loop-test .taken, places (l .before))) (c .face .ensures)
 
 cast-u : tie.Need-cast-u Inv-loop μ-loop
@@ -56,7 +60,7 @@ add-sides : tie.Need-add-sides Inv-loop μ-loop
 add-sides c =
     let f = c .before .before .before in
     let l = f .before .before in
-    let s = l .before .before .before .before .before in
+    let s = asked l in
     omega (arith, counting-most _ _ _ _ _ (l .loop .inv .1 .1) (inside f), s .pre .1, s .pre .0 .sized .room)
 
 mul-sides-2 : tie.Need-mul-sides-2 Inv-loop μ-loop
@@ -76,7 +80,7 @@ loop-again c =
     let n = c .before in
     let f = n .before in
     let i = f .before .before .loop .inv in
-    let k₀ = f .before .before .before .before .before .before .before .args .sides .now in (
+    let k₀ = asked (f .before .before) .args .sides .now in (
       omega arith,
       ⊎-elim
           (λ w. turn-new _ _ _ _ _ _ k₀ _ (i .1 .0) (i .1 .1) (f .face .ensures) (inside f) (n .named-below .ensures) (w .0 .taken) (w .2))

@@ -16,35 +16,40 @@ audit-requires c κs = search needs
 enum-told : tie.Need-enum-told
 enum-told c = search needs
 
+-- what the call was asked, seen from after the audit
+abbrev asked : tie.After-audit → tie.Start
+asked a = a .before .before
+
 is-sheet-requires : tie.Need-is-sheet-requires
 is-sheet-requires c κs =
-    audit-accepts-iff-valid (c .before .before .before .before .args .t .now) .0
-    (sym (c .before .before .audit .ensures) ∙ c .enum-told .given .1)
+    let a = c .before .before in
+    audit-accepts-iff-valid (asked a .args .t .now) .0 (sym (a .audit .ensures) ∙ c .enum-told .given .1)
 
--- an accepted table is judged by the test
-judged :
+-- an accepted table is answered by the test
+answered :
     (c : tie.After-is-sheet) (b : Bool) → c .is-sheet .result ≡ b →
-    pick b Yes No ≡ sheetAnswer (c .before .before .before .before .before .args .t .now)
-judged c b e =
-    accepted-answer (c .before .before .before .before .before .args .t .now) b
-    (sym (c .before .before .before .audit .ensures) ∙ c .before .enum-told .given .1)
+    pick b Yes No ≡ sheetAnswer (asked (c .before .before .before) .args .t .now)
+answered c b e =
+    let a = c .before .before .before in
+    accepted-answer (asked a .args .t .now) b
+    (sym (a .audit .ensures) ∙ c .before .enum-told .given .1)
     (sym (c .is-sheet .ensures) ∙ e)
 
 returns : tie.Need-returns
-returns c = judged (c .before) true (c .if1 .taken)
+returns c = answered (c .before) true (c .if1 .taken)
 
-enum-known-v : tie.Need-enum-known-v
-enum-known-v c = search needs
+enum-known-found : tie.Need-enum-known-found
+enum-known-found c = search needs
 
 returns-2 : tie.Need-returns-2
-returns-2 c = judged (c .before) false (c .if1 .left)
+returns-2 c = answered (c .before) false (c .if1 .left)
 
 returns-3 : tie.Need-returns-3
 returns-3 c =
-    refused-answer (c .before .before .before .before .before .args .t .now) _
-    (sym (c .before .before .before .audit .ensures) ∙ c .before .v .given .1)
+    let a = c .before .before .before in
+    refused-answer (asked a .args .t .now) _ (sym (a .audit .ensures) ∙ c .before .found .given .1)
 
 pub sheet-spec : {M : Type 1} → statement M
 sheet-spec =
     tie.close
-    (tie.spec audit-requires enum-told is-sheet-requires returns enum-known-v returns-2 returns-3)
+    (tie.spec audit-requires enum-told is-sheet-requires returns enum-known-found returns-2 returns-3)

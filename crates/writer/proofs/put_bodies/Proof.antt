@@ -1,50 +1,82 @@
--- `writer::put_bodies` meets its contract. The invariant: the bodies below p stand there. The measure: the dimensions left.
--- Assumes nothing.
-use mathlib.Core.Path.{refl}
-use Prim.Native.Nat.{_-_, _≤_}
+-- `writer::put_bodies` meets its contract. The invariant: what the cells below c give the bodies stands there. The measure: the cells
+-- left. Assumes nothing.
+use mathlib.Core.Path.{sym}
+use mathlib.Core.Logic.{⊎-elim}
+use Prim.Native.Nat.{_-_, _≤_, _<_}
 use native.Mathlib.Omega.{arith}
 use borrow.Author.Needs.{needs}
-use Rattle.sketch.specs.Form.{pieces, dimensions}
-use Rattle.sketch.specs.Written.{bodyOf}
-use Rattle.writer.specs.Put.{Put}
-use Rattle.writer.proofs.Pasting.{put-none, put-no-piece, put-piece, next-fits, all-put}
+use Rattle.table.specs.Table.{cellsOf}
+use Rattle.writer.proofs.Filling.{Filling, filling-none, filling-passed, record-fits, filling-more, all-filled}
 use Rattle.writer.proofs.put_bodies.Statement.{statement}
 use Rattle.writer.proofs.put_bodies.Tie as tie
 
 abbrev Inv-loop : tie.InvT-loop
-Inv-loop t target₀ at end₀ p₀ target end p = (p ≤ dimensions) × Put target₀ at (pieces (bodyOf t) p) end target
+Inv-loop t target₀ cells ends₀ c₀ target ends c = (c ≤ cells) × Filling t target₀ c ends target
 
 abbrev μ-loop : tie.MeasureT-loop
-μ-loop t target₀ at end₀ p₀ target end p = dimensions - p
+μ-loop t target₀ cells ends₀ c₀ target ends c = cells - c
+
+room-requires : tie.Need-room-requires Inv-loop μ-loop
+room-requires c κs = search needs
 
 loop-holds : tie.Need-loop-holds Inv-loop μ-loop
 loop-holds c =
-    (omega arith, put-no-piece _)
+    let s = c .before .before .before in
+    (omega arith, filling-none _ _ _ (search needs) (s .pre .0))
 
-put-body-requires : tie.Need-put-body-requires Inv-loop μ-loop
-put-body-requires c κs =
-    let l = c .before .before in
-    let s = l .before .before .before in
-    (omega arith, next-fits (bodyOf (s .args .t .now)) _ refl put-none (l .loop .inv .1) (c .before .loop-test .taken) (s .pre))
+dim-requires : tie.Need-dim-requires Inv-loop μ-loop
+dim-requires c κs = search needs
 
-add-p : tie.Need-add-p Inv-loop μ-loop
-add-p c = search needs
+cast-p : tie.Need-cast-p Inv-loop μ-loop
+cast-p c = search needs
+
+mul-put-cell : tie.Need-mul-put-cell Inv-loop μ-loop
+mul-put-cell c = search needs
+
+array-read-put-cell : tie.Need-array-read-put-cell Inv-loop μ-loop
+array-read-put-cell c = search needs
+
+put-cell-requires : tie.Need-put-cell-requires Inv-loop μ-loop
+put-cell-requires c κs =
+    let d = c .before .before in
+    let l = d .before .before in
+    let s = l .before .before .before .before in
+    let inside : l .loop .c < cellsOf (s .args .t .now) = omega arith in
+    (inside, record-fits (l .loop .inv .1) _ inside (omega arith) (sym (d .dim .ensures)) (s .pre .1))
+
+mul-ends : tie.Need-mul-ends Inv-loop μ-loop
+mul-ends c = search needs
+
+array-write-ends : tie.Need-array-write-ends Inv-loop μ-loop
+array-write-ends c = search needs
+
+add-c : tie.Need-add-c Inv-loop μ-loop
+add-c c = search needs
 
 loop-less : tie.Need-loop-less Inv-loop μ-loop
 loop-less c = search needs
 
 loop-again : tie.Need-loop-again Inv-loop μ-loop
 loop-again c =
-    let l = c .before .before .before .before .before in
-    let s = l .before .before .before in
-    (omega arith, put-piece (bodyOf (s .args .t .now)) (l .loop .inv .1) (c .before .before .put-body .ensures))
+    let d = c .before in
+    let l = d .before .before in
+    let s = l .before .before .before .before in
+    let e = sym (d .dim .ensures) in (
+      omega arith,
+      ⊎-elim
+          (λ w. rw (w .5, w .6) (filling-more (l .loop .inv .1) _ (omega arith) (omega (arith, w .0 .taken)) e (s .pre .1) (w .2 .ensures)))
+          (λ w. rw (w .1, w .2) (filling-passed (l .loop .inv .1) (omega arith)))
+          (c .if1 .came),
+    )
 
 same-length : tie.Need-same-length Inv-loop μ-loop
 same-length c = search needs
 
 returns : tie.Need-returns Inv-loop μ-loop
 returns c =
-    let l = c .before .loop in all-put (bodyOf _) _ refl put-none (l .inv .1) (l .inv .0) (c .loop-test .left)
+    let l = c .before .loop in
+    let s = c .before .before .before .before .before in
+    all-filled (s .pre .1) (omega arith) (l .inv .1)
 
 pub put-bodies-spec : {M : Type 1} → statement M
 put-bodies-spec =
@@ -52,9 +84,16 @@ put-bodies-spec =
     (tie.spec
     Inv-loop
     μ-loop
+    room-requires
     loop-holds
-    put-body-requires
-    add-p
+    dim-requires
+    cast-p
+    mul-put-cell
+    array-read-put-cell
+    put-cell-requires
+    mul-ends
+    array-write-ends
+    add-c
     loop-less
     loop-again
     same-length

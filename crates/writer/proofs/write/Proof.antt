@@ -1,17 +1,17 @@
 -- `writer::write` meets its contract: the audit's verdict decides the first two refusals, the file's length the third; then the file
 -- is its contents and its bodies. Assumes nothing.
-use mathlib.Core.Path.{_≡_, sym, ap, _∙_}
+use mathlib.Core.Path.{_≡_, sym, _∙_}
 use Prim.Native.Nat.{_≤_}
 use native.Mathlib.Omega.{arith}
 use borrow.Author.Needs.{needs}
-use lib.ListN.{length}
+use lib.ListN.{length, getD}
+use Rattle.table.specs.Kind.{dimensions}
 use Rattle.table.specs.Table.{Valid}
 use Rattle.audit.proofs.Valid.{audit-accepts-iff-valid}
-use Rattle.sketch.specs.Form.{pieces, dimensions}
-use Rattle.sketch.specs.Written.{bodyOf, fileOf}
-use Rattle.writer.proofs.Pasting.{put-then, put-as, rest-fits}
-use Rattle.writer.proofs.Parts.{file-parts, contents-fit}
-use Rattle.writer.proofs.Starts.{array-fits, size-agrees}
+use Rattle.sketch.specs.Written.{countOf, fileOf}
+use Rattle.writer.specs.Put.{Counted, Started}
+use Rattle.writer.proofs.Parts.{contents-fit, file-put}
+use Rattle.writer.proofs.Starts.{census-counts, array-fits, table-starts, last-start}
 use Rattle.writer.proofs.Answers.{ends-refused, ends-without-room, ends-written}
 use Rattle.writer.proofs.write.Statement.{statement}
 use Rattle.writer.proofs.write.Tie as tie
@@ -29,9 +29,29 @@ enum-told c = search needs
 valid : (c : tie.After-enum-told) → Valid (c .before .before .before .before .before .args .t .now)
 valid c = audit-accepts-iff-valid _ .0 (sym (c .before .before .audit .ensures) ∙ c .enum-told .given .1)
 
--- what was computed from the counts is the file's length
-size : (c : tie.After-file-size) → c .file-size .result ≡ length (fileOf (c .before .before .before .before .before .before .before .args .t .now))
-size c = c .file-size .ensures ∙ size-agrees _ _ (c .before .count-cells .ensures)
+census-requires : tie.Need-census-requires
+census-requires c κs = valid c .sized .room
+
+-- the census counts the cells of each dimension, and by it the bodies start
+counted : (c : tie.After-census) → Counted (c .before .before .before .before .before .before .args .t .now) (c .census .result)
+counted c = census-counts _ _ (c .census .ensures)
+
+body-starts-requires : tie.Need-body-starts-requires
+body-starts-requires c κs = array-fits _ _ (valid (c .before) .sized) (counted c)
+
+started :
+    (c : tie.After-body-starts) →
+    Started (countOf (c .before .before .before .before .before .before .before .args .t .now)) (c .body-starts .result)
+started c = table-starts _ _ _ (counted (c .before)) (c .body-starts .ensures)
+
+array-read-size : tie.Need-array-read-size
+array-read-size c = search needs
+
+-- the last of the starts is the file's length
+size :
+    (c : tie.After-body-starts) →
+    getD (c .body-starts .result) dimensions 0 ≡ length (fileOf (c .before .before .before .before .before .before .before .args .t .now))
+size c = last-start _ _ (started c)
 
 room :
     (c : tie.Else1) →
@@ -39,26 +59,19 @@ room :
     length (fileOf (a .t .now)) ≤ length (a .target .now)
 room c = omega (arith, c .if1 .left, size (c .before))
 
-count-cells-requires : tie.Need-count-cells-requires
-count-cells-requires c κs = search needs
-
-file-size-requires : tie.Need-file-size-requires
-file-size-requires c κs = array-fits _ _ (valid (c .before) .sized) (c .count-cells .ensures)
-
 returns : tie.Need-returns
 returns c = ends-without-room _ _ (valid (c .before .before .before)) (omega (arith, c .if1 .taken, size (c .before)))
 
 put-contents-requires : tie.Need-put-contents-requires
 put-contents-requires c κs =
-    let n = c .before .before .before in
-    (valid (n .before) .sized, n .count-cells .ensures, contents-fit _ _ (room (c .before)))
+    let s = c .before .before in
+    (counted (s .before), started s, contents-fit _ _ (room (c .before)))
 
 put-bodies-requires : tie.Need-put-bodies-requires
 put-bodies-requires c κs =
     let p = c .before .before .before in
     let e = p .before .before in
-    let t = e .before .before .before .before .before .before .before .before .args .t .now in
-    rest-fits (pieces (bodyOf t) dimensions) (p .put-contents .ensures) (omega (arith, room e, ap length (file-parts t)))
+    (started (e .before), omega (arith, room e, p .put-contents .ensures .same))
 
 returns-2 : tie.Need-returns-2
 returns-2 c = ends-refused _ _ _ (sym (c .before .before .before .audit .ensures) ∙ c .before .found .given .1)
@@ -68,10 +81,11 @@ same-length c = search needs
 
 returns-3 : tie.Need-returns-3
 returns-3 c =
-    let p = c .before .before .before .before .before .before in
+    let b = c .before .before in
+    let p = b .before .before .before .before in
     let e = p .before .before in
     ends-written _ _ (valid (e .before .before .before)) (room e)
-    (put-as (file-parts _) (put-then (p .put-contents .ensures) (c .before .before .put-bodies .ensures)))
+    (file-put _ (p .put-contents .ensures) (b .put-bodies .ensures) (size (e .before)))
 
 pub write-spec : {M : Type 1} → statement M
 write-spec =
@@ -80,8 +94,9 @@ write-spec =
     audit-requires
     enum-known-found
     enum-told
-    count-cells-requires
-    file-size-requires
+    census-requires
+    body-starts-requires
+    array-read-size
     returns
     put-contents-requires
     put-bodies-requires

@@ -12,7 +12,7 @@ use Rattle.cone.proofs.marks.asked.Statement.{statement}
 use Rattle.cone.proofs.marks.asked.Tie as tie
 
 abbrev Inv-loop : tie.InvT-loop
-Inv-loop t marks n end leaks₀ top₀ c₀ leaks top c = (c ≤ end) × (end ≤ cellsOf t) × Passed t marks c leaks top
+Inv-loop t marks n end leaks₀ top₀ c₀ leaks top c = Passed t marks c leaks top × (c ≤ end) × (end ≤ cellsOf t)
 
 abbrev μ-loop : tie.MeasureT-loop
 μ-loop t marks n end leaks₀ top₀ c₀ leaks top c = end - c
@@ -27,7 +27,7 @@ returns : tie.Need-returns Inv-loop μ-loop
 returns c = past-refused _ _ _ (c .before .marks-end .ensures) (omega arith)
 
 loop-holds : tie.Need-loop-holds Inv-loop μ-loop
-loop-holds c = (omega arith, omega arith, pass-starts _ _)
+loop-holds c = (pass-starts _ _, omega arith, omega arith)
 
 has-requires : tie.Need-has-requires Inv-loop μ-loop
 has-requires c κs = search needs
@@ -56,18 +56,18 @@ loop-again : tie.Need-loop-again Inv-loop μ-loop
 loop-again c =
     let b = c .before in
     let i = b .before .before .loop .inv in (
-      omega arith,
-      i .1,
       ⊎-elim
-          (λ w. rw (w .5, w .6) (pass-marked _ _ _ _ _ (i .2) _ _ (sym (b .has .ensures) ∙ w .0 .taken) (sym (w .1 .ensures) ∙ not-false _ (w .2 .left)) (w .3 .ensures) (w .4 .ensures)))
-          (λ w. rw (w .1, w .2) (pass-unmarked _ _ _ _ _ (i .2) (sym (b .has .ensures) ∙ w .0 .left)))
+          (λ w. rw (w .5, w .6) (pass-marked _ _ _ _ _ (i .0) _ _ (sym (b .has .ensures) ∙ w .0 .taken) (sym (w .1 .ensures) ∙ not-false _ (w .2 .left)) (w .3 .ensures) (w .4 .ensures)))
+          (λ w. rw (w .1, w .2) (pass-unmarked _ _ _ _ _ (i .0) (sym (b .has .ensures) ∙ w .0 .left)))
           (c .if2 .came),
+      omega arith,
+      i .2,
     )
 
 over : (c : tie.After-loop Inv-loop μ-loop) → let a = c .before .before .before .before .before .before .before .args in Decides (a .t .now) (a .marks .now) (c .before .loop .leaks) (c .before .loop .top)
 over c =
     let l = c .before in
-    pass-ends _ _ _ _ _ _ (omega arith) (l .before .before .marks-end .ensures) (l .loop .inv .1) (l .loop .inv .2)
+    pass-ends _ _ _ _ _ _ (omega arith) (l .before .before .marks-end .ensures) (l .loop .inv .2) (l .loop .inv .0)
 
 returns-3 : tie.Need-returns-3 Inv-loop μ-loop
 returns-3 c = sym (over (c .before) ∙ rw (c .if4 .taken))

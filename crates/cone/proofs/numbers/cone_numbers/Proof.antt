@@ -1,18 +1,19 @@
--- `cone_numbers` meets its contract. The invariant: the marked cells below s have their numbers. The measure: the cells not looked
--- at. Assumes nothing.
+-- `cone_numbers` meets its contract. The invariant: the marked cells below s have their numbers. The measure: the cells left before
+-- the end of the marks. Assumes nothing.
 use mathlib.Core.Path.{sym, _∙_}
 use mathlib.Core.Logic.{⊎-elim}
-use Prim.Native.Nat.{_-_}
+use Prim.Native.Nat.{_-_, _≤_, _<_}
+use native.Mathlib.Omega.{arith}
 use borrow.Author.Needs.{needs}
 use Rattle.cone.proofs.Numbering.{Giving, giving-starts, giving-gives, giving-passes, giving-ends}
 use Rattle.cone.proofs.numbers.cone_numbers.Statement.{statement}
 use Rattle.cone.proofs.numbers.cone_numbers.Tie as tie
 
 abbrev Inv-loop : tie.InvT-loop
-Inv-loop t marks apex numbers₀ n last₀ s₀ numbers last s = Giving t marks numbers n last s
+Inv-loop t marks apex end numbers₀ n last₀ s₀ numbers last s = (s ≤ end) × Giving t marks numbers n last s
 
 abbrev μ-loop : tie.MeasureT-loop
-μ-loop t marks apex numbers₀ n last₀ s₀ numbers last s = n - s
+μ-loop t marks apex end numbers₀ n last₀ s₀ numbers last s = end - s
 
 room-requires : tie.Need-room-requires Inv-loop μ-loop
 room-requires c κs = search needs
@@ -20,7 +21,7 @@ room-requires c κs = search needs
 loop-holds : tie.Need-loop-holds Inv-loop μ-loop
 loop-holds c =
     let b = c .before .before .before in
-    giving-starts (b .args .t .now) _ _ _ _ (c .room .ensures) (b .pre .0) (b .pre .1) (b .pre .2)
+    (search needs, giving-starts (b .args .t .now) _ _ _ _ (c .room .ensures) (b .pre .0) (b .pre .1) (b .pre .2))
 
 has-requires : tie.Need-has-requires Inv-loop μ-loop
 has-requires c κs = search needs
@@ -49,16 +50,19 @@ loop-less c = search needs
 loop-again : tie.Need-loop-again Inv-loop μ-loop
 loop-again c =
     let l = c .before .before .before .loop in
-    let turn = c .before .before .loop-test .taken in
-    ⊎-elim
-    (λ w. rw (w .2, w .3) (giving-gives _ _ (l .numbers) _ (l .last) (l .s) (l .inv) turn _ (sym (c .before .has .ensures) ∙ w .0 .taken) (w .1 .ensures)))
-    (λ w. rw (w .1, w .2) (giving-passes _ _ (l .numbers) _ (l .last) (l .s) (l .inv) turn (sym (c .before .has .ensures) ∙ w .0 .left)))
-    (c .if1 .came)
+    let r = c .before .before .before .before in
+    let turn : l .s < r .room .result = omega (arith, r .before .before .before .pre .3 .inside) in (
+      search needs,
+      ⊎-elim
+          (λ w. rw (w .2, w .3) (giving-gives _ _ (l .numbers) _ (l .last) (l .s) (l .inv .1) turn _ (sym (c .before .has .ensures) ∙ w .0 .taken) (w .1 .ensures)))
+          (λ w. rw (w .1, w .2) (giving-passes _ _ (l .numbers) _ (l .last) (l .s) (l .inv .1) turn (sym (c .before .has .ensures) ∙ w .0 .left)))
+          (c .if1 .came),
+    )
 
 returns : tie.Need-returns Inv-loop μ-loop
 returns c =
     let l = c .before .loop in
-    giving-ends _ _ (l .numbers) _ (l .last) (l .s) (l .inv) (c .loop-test .left)
+    giving-ends _ _ (l .numbers) _ (l .last) (l .s) _ (l .inv .1) (omega arith) (c .before .before .before .before .before .pre .3)
 
 pub cone-numbers-spec : {M : Type 1} → statement M
 cone-numbers-spec =

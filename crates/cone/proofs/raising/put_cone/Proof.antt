@@ -1,49 +1,64 @@
--- `put_cone` meets its contract: the record stored is the one that `cone_faces` laid out. Assumes nothing.
+-- `put_cone` meets its contract: each arm names the dimension of the cone and the number of the cell's faces, which are those of the
+-- cell that was read. What carries it: one law for every arm, from the arm's number. Assumes nothing.
+use mathlib.Core.Path.{_≡_, sym, ap, _∙_}
+use Prim.Native.Nat.{ℕ, _+_}
 use borrow.Author.Needs.{needs}
 use native.Mathlib.Omega.{arith}
-use Rattle.table.proofs.Stores.{stored-alike}
+use Rattle.table.specs.Kind.{used}
+use Rattle.cone.specs.Parts.{ConeableAs}
 use Rattle.cone.proofs.raising.put_cone.Statement.{statement}
 use Rattle.cone.proofs.raising.put_cone.Tie as tie
 
 dim-requires : tie.Need-dim-requires
 dim-requires c κs = search needs
 
-cone-faces-requires : tie.Need-cone-faces-requires
-cone-faces-requires c κs = search needs
+-- where the cell that was read has dimension k, the arm of k is right
+arm :
+    (c : tie.After-dim) (k : ℕ) → c .dim .result ≡ k →
+    let a = c .before .before .before .args in ConeableAs (a .t .now) (a .numbers .now) (a .s) (k + 1) (used k)
+arm c k e =
+    let is = sym e ∙ c .dim .ensures in
+    (c .before .before .before .pre, ap (λ p. p + 1) is, ap used is)
 
-mul-put : tie.Need-mul-put
-mul-put c = search needs
+put-cone-as-requires : tie.Need-put-cone-as-requires
+put-cone-as-requires c κs = arm (c .before .before) 0 (c .before .match .keys1)
 
-element-copy-out-put : tie.Need-element-copy-out-put
-element-copy-out-put c = search needs
+put-cone-as-requires-2 : tie.Need-put-cone-as-requires-2
+put-cone-as-requires-2 c κs = arm (c .before .before) 1 (c .before .match .keys2)
 
-cast-put : tie.Need-cast-put
-cast-put c = search needs
+put-cone-as-requires-3 : tie.Need-put-cone-as-requires-3
+put-cone-as-requires-3 c κs = arm (c .before .before) 2 (c .before .match .keys3)
 
-add-put : tie.Need-add-put
-add-put c = search needs
+put-cone-as-requires-4 : tie.Need-put-cone-as-requires-4
+put-cone-as-requires-4 c κs = arm (c .before .before) 3 (c .before .match .keys4)
 
-put-requires : tie.Need-put-requires
-put-requires c κs = search needs
+put-cone-as-requires-5 : tie.Need-put-cone-as-requires-5
+put-cone-as-requires-5 c κs = arm (c .before .before) 4 (c .before .match .keys5)
 
-same-length : tie.Need-same-length
-same-length c = search needs
-
-returns : tie.Need-returns
-returns c =
-    let f = c .before .before .before .before .before in
-    stored-alike (omega arith) (f .cone-faces .ensures) (c .before .before .put .ensures)
+-- below the top dimension, what is left is 5
+put-cone-as-requires-6 : tie.Need-put-cone-as-requires-6
+put-cone-as-requires-6 c κs = arm (c .before .before) 5 (omega arith)
 
 pub put-cone-spec : {M : Type 1} → statement M
 put-cone-spec =
     tie.close
     (tie.spec
     dim-requires
-    cone-faces-requires
-    mul-put
-    element-copy-out-put
-    cast-put
-    add-put
-    put-requires
-    same-length
-    returns)
+    put-cone-as-requires
+    put-cone-as-requires-2
+    put-cone-as-requires-3
+    put-cone-as-requires-4
+    put-cone-as-requires-5
+    put-cone-as-requires-6
+    (λ c. search needs)
+    (λ c. search needs)
+    (λ c. search needs)
+    (λ c. search needs)
+    (λ c. search needs)
+    (λ c. search needs)
+    (λ c. search needs)
+    (λ c. search needs)
+    (λ c. search needs)
+    (λ c. search needs)
+    (λ c. search needs)
+    (λ c. search needs))

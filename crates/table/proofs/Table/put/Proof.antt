@@ -1,80 +1,27 @@
--- `table::Table::put` meets its contract. The invariant: the faces below j of record c are written, every other word is the old one.
--- The measure: the places left. Assumes nothing.
-use mathlib.Core.Path.{_≡_, refl, _∙_}
-use Prim.Native.Nat.{_-_, _≤_}
+-- `table::Table::put` meets its contract: the faces are written, then one word. Assumes nothing.
 use borrow.Author.Needs.{needs}
 use native.Mathlib.Omega.{arith}
-use lib.ListN.{length, getD, length-set}
-use Rattle.table.specs.Kind.{faces}
-use Rattle.table.proofs.Stores.{Faced, faced-none, faced-more, record-done}
+use Rattle.table.proofs.Stores.{dim-stored}
 use Rattle.table.proofs.Table.put.Statement.{statement}
 use Rattle.table.proofs.Table.put.Tie as tie
 
-abbrev Inv-loop : tie.InvT-loop
-Inv-loop t₀ c p f j₀ t j = (j ≤ faces) × (length t ≡ length t₀) × Faced c (λ l. getD f l 0) t₀ j t
+put-faces-requires : tie.Need-put-faces-requires
+put-faces-requires c κs = search needs
 
-abbrev μ-loop : tie.MeasureT-loop
-μ-loop t₀ c p f j₀ t j = faces - j
-
-loop-holds : tie.Need-loop-holds Inv-loop μ-loop
-loop-holds c = (search needs, search needs, faced-none _ _ _)
-
-mul-put-face : tie.Need-mul-put-face Inv-loop μ-loop
-mul-put-face c = search needs
-
-array-read-put-face : tie.Need-array-read-put-face Inv-loop μ-loop
-array-read-put-face c = search needs
-
-put-face-requires : tie.Need-put-face-requires Inv-loop μ-loop
-put-face-requires c κs = (omega arith, search needs)
-
-add-j : tie.Need-add-j Inv-loop μ-loop
-add-j c = search needs
-
-loop-less : tie.Need-loop-less Inv-loop μ-loop
-loop-less c = search needs
-
-loop-again : tie.Need-loop-again Inv-loop μ-loop
-loop-again c =
-    let put = c .before .before .put-face in
-    let l = c .before .before .before .before .before .loop in (
-      search needs,
-      put .ensures .size ∙ l .inv .1,
-      faced-more _ _ _ (l .t) (put .last .0) (l .j) _ refl (l .inv .2) (put .ensures),
-    )
-
-mul-at : tie.Need-mul-at Inv-loop μ-loop
+mul-at : tie.Need-mul-at
 mul-at c = search needs
 
-mul-t : tie.Need-mul-t Inv-loop μ-loop
+mul-t : tie.Need-mul-t
 mul-t c = search needs
 
-slice-write-t : tie.Need-slice-write-t Inv-loop μ-loop
+slice-write-t : tie.Need-slice-write-t
 slice-write-t c = search needs
 
-same-length : tie.Need-same-length Inv-loop μ-loop
+same-length : tie.Need-same-length
 same-length c = search needs
 
-returns : tie.Need-returns Inv-loop μ-loop
-returns c =
-    let l = c .before .loop in
-    record-done _ _ _ (l .t) (l .j) _ (c .before .before .before .pre) (c .loop-test .left) (l .inv .2)
+returns : tie.Need-returns
+returns c = dim-stored _ _ _ _ _ (c .before .before .before .before .before .pre) (c .before .before .put-faces .ensures)
 
 pub put-spec : {M : Type 1} → statement M
-put-spec =
-    tie.close
-    (tie.spec
-    Inv-loop
-    μ-loop
-    loop-holds
-    mul-put-face
-    array-read-put-face
-    put-face-requires
-    add-j
-    loop-less
-    loop-again
-    mul-at
-    mul-t
-    slice-write-t
-    same-length
-    returns)
+put-spec = tie.close (tie.spec put-faces-requires mul-at mul-t slice-write-t same-length returns)

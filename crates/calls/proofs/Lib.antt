@@ -1,0 +1,4 @@
+pub mod Grounds
+pub mod Outcomes
+pub mod Numbers
+pub mod Order
