@@ -1,6 +1,6 @@
 -- Rows of evidence: how many words a row has, which, and what they are as sets of cells.
 -- What carries it: the laws of rows of words, at the width of the table's. Assumes nothing.
-use mathlib.Core.Path.{_≡_, refl, sym, ap, _∙_}
+use mathlib.Core.Path.{_≡_}
 use mathlib.Core.List.{List}
 use Prim.Native.Nat.{ℕ, _+_, _*_, _≤_, _<_}
 use native.Mathlib.Omega.{arith}
@@ -8,7 +8,6 @@ use lib.ListN.{length, getD}
 use Rattle.homology.specs.Cells.{Cells}
 use Rattle.homology.specs.Evidence.{RuleA}
 use Rattle.homology.proofs.Marks.{by-mark, clash}
-use Rattle.bitset.proofs.Runs.{Run, run-word}
 use Rattle.bitset.proofs.RowLaws.{row-fits, length-row, getD-row}
 use Rattle.table.specs.Kind.{capacity}
 use Rattle.bitset.specs.Bits.{fullWidth}
@@ -36,8 +35,3 @@ rule-a-live K ev c rule = record {
       (λ h. rule .alike h s e .0)
       (λ h. clash e (rule .free h s));
 }
-
--- a word of the row's copy, n words wide
-pub copied-word : (K : Cells) (ev : List ℕ) (c n k : ℕ) (words₀ words : List ℕ) → n ≡ rowWidth K → n ≤ k → Run 0 k (λ i. getD ev (c * n + i) 0) words₀ words → (w : ℕ) → w < n → getD words w 0 ≡ getD (rowOf K ev c) w 0
-copied-word K ev c n k words₀ words e end copied w h =
-    run-word copied w (omega arith) ∙ ap (λ (u : ℕ). getD ev (c * u + w) 0) e ∙ sym (getD-rowOf K ev c w (omega arith))

@@ -53,16 +53,10 @@ pub fn row_boundary(t: &[u16], evidence: &[u64], row: usize) -> [u64; bitset::FU
 {
     let width = bitset::words_for(view::size(t));
     let at = row * width;
-    let mut words = [0; bitset::FULL];
-    let mut k = 0;
-    while k < width {
-        words[k] = evidence[at + k];
-        k += 1;
-    }
     let mut b = [0; bitset::FULL];
     let mut w = 0;
     while w < width {
-        add_word(t, w, words[w], &mut b);
+        add_word(t, w, evidence[at + w], &mut b);
         w += 1;
     }
     b
