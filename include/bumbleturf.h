@@ -51,7 +51,8 @@ uint32_t bt_boundary(const uint16_t *table, size_t words, const int64_t *chain, 
 /* Corner k of a cell of dimension p, k from 0 to p. Refused: 1, 2, 3, 12. */
 uint32_t bt_corner(const uint16_t *table, size_t words, uint16_t cell, uint16_t k, uint16_t *corner);
 
-/* Writes 1 where the table is a sheet, 0 where it is none. Refused: 1, 2. */
+/* Writes 1 where the table is a sheet, 0 where it is none: every cell is reached from one of the largest dimension n, and at most two
+ * (n-cell, face place) pairs name an (n-1)-cell, so that a face named twice by one cell counts twice. Refused: 1, 2. */
 uint32_t bt_sheet(const uint16_t *table, size_t words, uint8_t *yes);
 
 /* Fills the evidence, N rows of N/64 rounded up words, and counts the additions made in each dimension. Refused: 1, 2. */

@@ -100,6 +100,9 @@ const TWO_EDGES: &[(u16, &[u16])] = &[(0, &[]), (1, &[]), (2, &[1, 0]), (3, &[1,
 const SWAPPED: &[(u16, &[u16])] = &[(0, &[]), (1, &[]), (2, &[1, 0]), (3, &[0, 1])];
 pub const TORUS: &[(u16, &[u16])] =
     &[(0, &[]), (1, &[0, 0]), (2, &[0, 0]), (3, &[0, 0]), (4, &[2, 3, 1]), (5, &[1, 3, 2])];
+/// Two triangles that meet each of two loops in three places, one of them twice.
+pub const FOLDED: &[(u16, &[u16])] = &[(0, &[]), (1, &[0, 0]), (2, &[0, 0]), (3, &[1, 1, 2]), (4, &[1, 2, 2])];
+const FIGURE_EIGHT: &[(u16, &[u16])] = &[(0, &[]), (1, &[0, 0]), (2, &[0, 0])];
 pub const PROJECTIVE_PLANE: &[(u16, &[u16])] =
     &[(0, &[]), (1, &[]), (2, &[1, 0]), (3, &[1, 0]), (4, &[0, 0]), (5, &[3, 2, 4]), (6, &[2, 3, 4])];
 
@@ -265,10 +268,18 @@ fn own_cell(run: Run) -> Verdict {
     same("answer and row", (outcome.number, outcome.values[14]), (13, 5))
 }
 
+/// 02 "Sheet test counts places": the folded strip and the figure eight are no sheets, the loop and the torus are.
+fn sheet_places(run: Run) -> Verdict {
+    Bench::on(run, 8, FOLDED).value(Call::Sheet, 0)?;
+    Bench::on(run, 8, FIGURE_EIGHT).value(Call::Sheet, 0)?;
+    Bench::on(run, 8, LOOP).value(Call::Sheet, 1)?;
+    Bench::on(run, 8, TORUS).value(Call::Sheet, 1)
+}
+
 /// A case with its title.
 type Titled = (&'static str, fn(Run) -> Verdict);
 
-pub const ALL: [Titled; 21] = [
+pub const ALL: [Titled; 22] = [
     ("case 1, empty table", case_1),
     ("case 2, loop", case_2),
     ("case 3, segment", case_3),
@@ -290,6 +301,7 @@ pub const ALL: [Titled; 21] = [
     ("shortcut 3, faces above the freed number", case_15),
     ("shortcut 4, free records passed over", free_records),
     ("shortcut 5, row without its own cell", own_cell),
+    ("sheet test, three places on one edge", sheet_places),
 ];
 
 /// Runs all cases with each of the named runs; one line for each case. Answers whether all held.

@@ -157,8 +157,12 @@ fn sheets() {
     assert_eq!(sheet(&[(0, &[]), (4, &[])]), Ok(true));
     assert_eq!(sheet(cases::TORUS), Ok(true));
     assert_eq!(sheet(&[(0, &[]), (1, &[0, 0]), (2, &[])]), Ok(false));
-    assert_eq!(sheet(&[(0, &[]), (1, &[0, 0]), (2, &[0, 0])]), Ok(true));
-    assert_eq!(sheet(&[(0, &[]), (1, &[0, 0]), (2, &[0, 0]), (3, &[0, 0])]), Ok(false));
+    // A loop has two places at its point; two loops at one point, a figure eight, have four.
+    assert_eq!(sheet(&[(0, &[]), (1, &[0, 0])]), Ok(true));
+    assert_eq!(sheet(&[(0, &[]), (1, &[0, 0]), (2, &[0, 0])]), Ok(false));
+    // A triangle whose three sides are one loop; two triangles that meet one edge in three places, one of them twice.
+    assert_eq!(sheet(&[(0, &[]), (1, &[0, 0]), (2, &[1, 1, 1])]), Ok(false));
+    assert_eq!(sheet(cases::FOLDED), Ok(false));
 }
 
 #[test]

@@ -1,7 +1,10 @@
 pub mod Dimensions
 pub mod Over
 pub mod Sheets
+pub mod Totals
 pub mod Wings
+pub mod Agreement
 pub mod Counters
 pub mod Passing
 pub mod Answers
+pub mod Examples

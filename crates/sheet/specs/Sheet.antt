@@ -1,10 +1,10 @@
 -- The sheet test. A table is a sheet when it has a live cell, every live cell is an n-cell or reached from one through faces, and
--- every (n−1)-cell is a face of at most two n-cells, where n is the largest live dimension.
+-- every (n−1)-cell is named at no more than two places of n-cells, where n is the largest live dimension.
 -- A reader must believe these definitions; nothing here is proved.
 use mathlib.Core.Path.{_≡_}
 use mathlib.Core.Bool.{Bool, _&&_, _||_, not}
 use mathlib.Core.List.{List}
-use Prim.Native.Nat.{ℕ, zero, suc, max, _≤_, _<_}
+use Prim.Native.Nat.{ℕ, zero, suc, max, _+_, _≤_, _<_}
 use lib.Dec.{eqb, leb}
 use Rattle.counting.specs.Counting.{howMany, someHas, pick, all}
 use Rattle.table.specs.Kind.{used}
@@ -23,18 +23,30 @@ pub data Reached (t : List ℕ) (n : ℕ) : ℕ → Type 0 where
 unfoldable pub hasFace : List ℕ → ℕ → ℕ → Bool
 hasFace t c u = someHas (λ j. eqb (face t c j) u) (used (dim t c))
 
--- how many n-cells have u as a face
-unfoldable pub wings : List ℕ → ℕ → ℕ → ℕ
-wings t n u = howMany (λ c. isCell t n c && hasFace t c u) (cellsOf t)
+-- how many places of c name u
+unfoldable pub places : List ℕ → ℕ → ℕ → ℕ
+places t c u = howMany (λ j. eqb (face t c j) u) (used (dim t c))
 
--- the sheet as it is described, n its dimension
-pub record IsSheet (t : List ℕ) (n : ℕ) : Type 0 where
+-- f 0 + f 1 + .. + f (m − 1)
+unfoldable pub total : (ℕ → ℕ) → ℕ → ℕ
+total f zero = 0
+total f (suc m) = total f m + f m
+
+-- how many pairs of an n-cell and a place of it name u
+unfoldable pub wings : List ℕ → ℕ → ℕ → ℕ
+wings t n u = total (λ c. pick (isCell t n c) (places t c u) 0) (cellsOf t)
+
+-- the sheet as it is described, n its dimension, where an (n−1)-cell u has w u wings
+pub record SheetBy (w : ℕ → ℕ) (t : List ℕ) (n : ℕ) : Type 0 where
   pub cell : ℕ
   pub living : Live t cell
   pub level : dim t cell ≡ n
   pub largest : (c : ℕ) → Live t c → dim t c ≤ n
   pub reached : (c : ℕ) → Live t c → Reached t n c
-  pub two-wings : (u : ℕ) → Live t u → n ≡ suc (dim t u) → wings t n u ≤ 2
+  pub two-wings : (u : ℕ) → Live t u → n ≡ suc (dim t u) → w u ≤ 2
+
+abbrev pub IsSheet : List ℕ → ℕ → Type 0
+IsSheet t n = SheetBy (wings t n) t n
 
 -- the largest live dimension below cell number m; 0 where there is none
 unfoldable pub largestBelow : List ℕ → ℕ → ℕ

@@ -1,12 +1,11 @@
-// The sheet test: whether a part is a sheet that a mesher can run on. One pass counts for each cell how many cells have it as a face,
-// and finds the largest dimension; a second tests every cell by these two numbers. In a valid table the cells over an (n−1)-cell
-// are n-cells, so one counter for each cell serves both conditions.
+// The sheet test: whether a part is a sheet that a mesher can run on. One pass counts for each cell at how many places it is named, and
+// finds the largest dimension; a second tests every cell by these two numbers. In a valid table the cells over an (n−1)-cell are
+// n-cells, so one counter for each cell serves both conditions.
 ghost use mathlib.Core.Path.{_≡_};
-ghost use Prim.Native.Nat.{_+_, _≤_, _<_};
-ghost use Rattle.table.specs.Kind.{faces};
+ghost use Prim.Native.Nat.{_+_, _<_};
 ghost use Rattle.table.specs.Table.{cellsOf, Valid};
 ghost use Rattle.sheet.specs.Sheet.{isSheet, sheetAnswer};
-ghost use Rattle.sheet.specs.Sides.{levelsBelow, namedBelow, Counted, passes as passesTest, allPass};
+ghost use Rattle.sheet.specs.Sides.{levelsBelow, Counted, passes as passesTest, allPass};
 use calls::Refusal;
 use calls::Verdict;
 use table::Table;
@@ -18,36 +17,20 @@ pub enum Judged {
     NotJudged(Refusal),
 }
 
-// Whether f is a face of cell c at a place below j.
-fn named_below(t: &[u16], c: usize, f: u16, j: usize) -> bool
-    requires { ⌜ (c < cellsOf (now t)) × (j ≤ faces) ⌝ }
-    ensures { λ r. ⌜ r ≡ namedBelow (now (t .entry)) c f j ⌝ }
-{
-    for l in 0..j {
-        if Table::face(t, c, l) == f {
-            return true;
-        }
-    }
-    false
-}
-
-// Adds cell c to the counters: one for each cell that it has as a face, however often.
+// Adds cell c to the counters: one at each place, for the cell that it names.
 fn count_cell(t: &[u16], c: usize, sides: &mut [u16])
     requires { ⌜ (Valid (now t)) × (c < cellsOf (now t)) × (Counted (now t) (now sides) c) ⌝ }
     ensures { λ _. ⌜ Counted (now (t .entry)) (now (sides .exit)) (c + 1) ⌝ }
 {
     let used = Table::used(Table::dim(t, c));
     for j in 0..used {
-        let f = Table::face(t, c, j);
-        if !named_below(t, c, f, j) {
-            let u = f as usize;
-            sides[u] = sides[u] + 1;
-        }
+        let u = Table::face(t, c, j) as usize;
+        sides[u] += 1;
     }
 }
 
-// One pass over the cells: counts for each cell how many cells have it as a face, and answers the levels of the table, one more than
-// the largest live dimension, or 0 where no cell is live.
+// One pass over the cells: counts for each cell at how many places it is named, and answers the levels of the table, one more than the
+// largest live dimension, or 0 where no cell is live.
 fn count_sides(t: &[u16], sides: &mut [u16]) -> u16
     requires { ⌜ (Valid (now t)) × (Counted (now t) (now sides) 0) ⌝ }
     ensures { λ r. ⌜ (r ≡ levelsBelow (now (t .entry)) (cellsOf (now (t .entry)))) × (Counted (now (t .entry)) (now (sides .exit)) (cellsOf (now (t .entry)))) ⌝ }

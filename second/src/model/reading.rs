@@ -63,7 +63,7 @@ pub fn corner(words: &[u16], cell: u16, k: u16) -> Answer<u16> {
     }
 }
 
-/// 01 "Sheet test". Refused: 1, 2.
+/// 01 "Sheet test", with 02 "Sheet test counts places". Refused: 1, 2.
 pub fn sheet(words: &[u16]) -> Answer<bool> {
     room_of(words)?;
     let table = Table::decode(words)?;
@@ -82,10 +82,10 @@ pub fn sheet(words: &[u16]) -> Answer<bool> {
         }
     }
     let all_reached = table.live().all(|(number, _)| reached.contains(&number));
-    // "Every (n−1)-cell is a face of at most two n-cells": cells are counted, not places.
+    // "(n-cell, face place) pairs: at most two per (n−1)-cell": places are counted, not cells.
     let mut uses = vec![0; table.cells.len()];
     for (_, cell) in of_dimension(n) {
-        for face in cell.faces.iter().collect::<BTreeSet<_>>() {
+        for face in &cell.faces {
             uses[*face as usize] += 1;
         }
     }

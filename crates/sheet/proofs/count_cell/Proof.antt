@@ -1,14 +1,13 @@
--- `sheet::count_cell` meets its contract. The invariant: a counter is ahead by one exactly where a place below j names its cell, and
+-- `sheet::count_cell` meets its contract. The invariant: a counter is ahead by the number of places below j that name its cell, and
 -- the counters are as many as they were. The measure: what is left of the places. Assumes nothing.
 use borrow.Author.Needs.{needs}
 use mathlib.Core.Path.{_≡_, refl, ap, _∙_}
-use mathlib.Core.Logic.{⊎-elim}
 use Prim.Native.Nat.{_-_, _≤_, _<_}
 use native.Mathlib.Omega.{arith}
 use lib.ListN.{length}
 use Rattle.table.specs.Kind.{used as usedOf}
 use Rattle.table.specs.Table.{cellsOf, dim}
-use Rattle.sheet.proofs.Counters.{Counting, counting-starts, counting-most, turn-new, turn-old, counting-ends, face-in}
+use Rattle.sheet.proofs.Counters.{Counting, counting-starts, counting-most, counting-turn, counting-ends, face-in}
 use Rattle.sheet.proofs.count_cell.Statement.{statement}
 use Rattle.sheet.proofs.count_cell.Tie as tie
 
@@ -30,8 +29,11 @@ loop-holds c = (omega arith, (refl, counting-starts _ _ _ (c .before .before .be
 face-requires : tie.Need-face-requires Inv-loop μ-loop
 face-requires c κs = search needs
 
-named-below-requires : tie.Need-named-below-requires Inv-loop μ-loop
-named-below-requires c κs = search needs
+cast-u : tie.Need-cast-u Inv-loop μ-loop
+cast-u c = search needs
+
+mul-sides : tie.Need-mul-sides Inv-loop μ-loop
+mul-sides c = search needs
 
 -- what the function was asked, seen from its loop
 abbrev asked : tie.At-loop Inv-loop μ-loop → tie.Start Inv-loop μ-loop
@@ -47,27 +49,18 @@ inside c =
     let s = asked l in
     face-in _ (s .pre .0) _ (l .loop .j) _ (s .pre .1) (omega (arith, c .before .loop-test .taken, places (l .before))) (c .face .ensures)
 
-cast-u : tie.Need-cast-u Inv-loop μ-loop
-cast-u c = search needs
-
-mul-sides : tie.Need-mul-sides Inv-loop μ-loop
-mul-sides c = search needs
-
 slice-read-sides : tie.Need-slice-read-sides Inv-loop μ-loop
-slice-read-sides c = let n = c .before .before in omega (arith, inside (n .before), n .before .before .before .loop .inv .1 .1 .room)
+slice-read-sides c = omega (arith, inside (c .before), c .before .before .before .loop .inv .1 .1 .room)
 
 add-sides : tie.Need-add-sides Inv-loop μ-loop
 add-sides c =
-    let f = c .before .before .before in
+    let f = c .before in
     let l = f .before .before in
     let s = asked l in
     omega (arith, counting-most _ _ _ _ _ (l .loop .inv .1 .1) (inside f), s .pre .1, s .pre .0 .sized .room)
 
-mul-sides-2 : tie.Need-mul-sides-2 Inv-loop μ-loop
-mul-sides-2 c = search needs
-
 slice-write-sides : tie.Need-slice-write-sides Inv-loop μ-loop
-slice-write-sides c = let n = c .before .before in omega (arith, inside (n .before), n .before .before .before .loop .inv .1 .1 .room)
+slice-write-sides c = omega (arith, inside (c .before), c .before .before .before .loop .inv .1 .1 .room)
 
 add-j : tie.Need-add-j Inv-loop μ-loop
 add-j c = search needs
@@ -77,16 +70,10 @@ loop-less c = search needs
 
 loop-again : tie.Need-loop-again Inv-loop μ-loop
 loop-again c =
-    let n = c .before in
-    let f = n .before in
-    let i = f .before .before .loop .inv in
-    let k₀ = asked (f .before .before) .args .sides .now in (
-      omega arith,
-      ⊎-elim
-          (λ w. turn-new _ _ _ _ _ _ k₀ _ (i .1 .0) (i .1 .1) (f .face .ensures) (inside f) (n .named-below .ensures) (w .0 .taken) (w .2))
-          (λ w. turn-old _ _ _ _ _ _ k₀ _ (i .1 .0) (i .1 .1) (f .face .ensures) (n .named-below .ensures) (w .0 .left) (w .1))
-          (c .if1 .came),
-    )
+    let f = c .before in
+    let l = f .before .before in
+    let i = l .loop .inv .1 in
+    (omega arith, counting-turn _ _ _ _ _ (i .1) (f .face .ensures) (inside f) (asked l .args .sides .now) (i .0))
 
 same-length : tie.Need-same-length Inv-loop μ-loop
 same-length c = search needs
@@ -104,12 +91,10 @@ count-cell-spec =
     used-requires
     loop-holds
     face-requires
-    named-below-requires
     cast-u
     mul-sides
     slice-read-sides
     add-sides
-    mul-sides-2
     slice-write-sides
     add-j
     loop-less
