@@ -151,6 +151,21 @@ fn corners_and_incidence() {
 }
 
 #[test]
+fn ceilings_are_met() {
+    use crate::model::evidence::ceiling;
+    // The torus: one addition in dimension 2, with 2 triangles of which 1 has a row with a boundary.
+    let words = cases::table(8, cases::TORUS);
+    assert_eq!(reduce(&words, &mut [0; 8]).map(|a| a[2]), Ok(1));
+    assert_eq!(ceiling(2, 1), 1);
+    // The worst star: a point joined to 170 others, then edges parallel to the last, 341 in all.
+    let ends: Vec<[u16; 2]> = (171..512).map(|c| [170, if c <= 340 { 340 - c } else { 0 }]).collect();
+    let mut star: Vec<(u16, &[u16])> = (0..=170).map(|c| (c, &[][..])).collect();
+    star.extend(ends.iter().enumerate().map(|(i, faces)| (171 + i as u16, &faces[..])));
+    assert_eq!(reduce(&cases::table(512, &star), &mut [0; 512 * 8]).map(|a| a[1]), Ok(43_435));
+    assert_eq!(ceiling(341, 170), 43_435);
+}
+
+#[test]
 fn sheets() {
     let sheet = |cells| reading::sheet(&cases::table(8, cells));
     assert_eq!(sheet(&[]), Ok(false));

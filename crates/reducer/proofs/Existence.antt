@@ -148,6 +148,10 @@ reduced-by-rule K lawful =
     let so : SoFar K (K .size) (rowsBelow K (K .size)) = rows-so-far K lawful (K .size) in
     record { size = so .heights-are .long; each = so .by-rule }
 
+-- and evidence by the rule is what is computed
+pub by-rule-is-computed : (K : Cells) (ev : List ℕ) (adds : ℕ → ℕ) → Lawful K → ByRule K ev adds → (ev ≡ reducedEvidence K) × ((c : ℕ) → c < K .size → adds c ≡ reducedAdditions K c)
+by-rule-is-computed K ev adds lawful by = by-rule-determines K ev (reducedEvidence K) adds (reducedAdditions K) by (reduced-by-rule K lawful)
+
 pub reduced-meets : (K : Cells) → Lawful K → Meets K (rows K (reducedEvidence K))
 reduced-meets K lawful = by-rule-meets K (reducedEvidence K) (reducedAdditions K) lawful (reduced-by-rule K lawful)
 

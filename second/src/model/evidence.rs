@@ -31,11 +31,17 @@ fn row_words(words: &[u16], evidence: &[u64]) -> Answer<usize> {
     Ok(width)
 }
 
-/// 01 "The reducer": answers the additions made in each dimension. Refused: 1, 2.
+/// 02 "A ceiling for the reducer's additions": r·(2n − r − 1)/2, for n live cells of which r have rows with a non-empty boundary.
+pub fn ceiling(n: u64, r: u64) -> u64 {
+    if r == 0 { 0 } else { r * (2 * n - r - 1) / 2 }
+}
+
+/// 01 "The reducer": answers the additions made in each dimension. Refused: 1, 2. Every reduction is held to its ceiling.
 pub fn reduce(words: &[u16], evidence: &mut [u64]) -> Answer<[u64; DIMENSIONS]> {
     let width = row_words(words, evidence)?;
     let table = Table::decode(words)?;
     let mut additions = [0; DIMENSIONS];
+    let mut bounding = [0; DIMENSIONS];
     // The finished rows with a non-empty boundary, by the largest cell of that boundary.
     let mut finished: BTreeMap<u16, BTreeSet<u16>> = BTreeMap::new();
     evidence.fill(0);
@@ -44,6 +50,7 @@ pub fn reduce(words: &[u16], evidence: &mut [u64]) -> Answer<[u64; DIMENSIONS]> 
         while let Some(largest) = boundary_of_row(&table, &row).last().copied() {
             let Some(earlier) = finished.get(&largest) else {
                 finished.insert(largest, row.clone());
+                bounding[cell.dimension] += 1;
                 break;
             };
             row = row.symmetric_difference(earlier).copied().collect();
@@ -51,6 +58,10 @@ pub fn reduce(words: &[u16], evidence: &mut [u64]) -> Answer<[u64; DIMENSIONS]> 
         }
         let start = number as usize * width;
         bits_of_set(&row, &mut evidence[start..start + width]);
+    }
+    for (p, n) in table.counts().into_iter().enumerate() {
+        let most = ceiling(n as u64, bounding[p]);
+        assert!(additions[p] <= most, "{} additions in dimension {p}, the ceiling is {most}", additions[p]);
     }
     Ok(additions)
 }

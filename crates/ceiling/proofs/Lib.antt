@@ -1,0 +1,5 @@
+pub mod Sums
+pub mod Fewer
+pub mod RowCeiling
+pub mod Total
+pub mod Torus
