@@ -4,7 +4,7 @@
 
 PREFIX = /usr/local
 DESTDIR =
-VERSION = 0.1.0
+VERSION = 0.2.0
 ARCHIVE = target/staticlib/libkernel.a
 PROGRAM = target/bin/holes
 to = $(DESTDIR)$(PREFIX)

@@ -20,7 +20,7 @@ static struct {
     const struct piece *piece;
     size_t words, row, length;
     uint16_t copies[COPIES][64], two[2][PL_RECORD * PL_ROOM], target[PL_RECORD * PL_ROOM];
-    uint16_t cells[PL_DIMENSIONS], holes[PL_DIMENSIONS], bad, cell, face, point;
+    uint16_t cells[PL_DIMENSIONS], holes[PL_DIMENSIONS], cell, face, point;
     int64_t chain[PL_ROOM], boundary[PL_ROOM], sum;
     uint64_t evidence[PL_ROOM * PL_ROW], made[PL_ROOM * PL_ROW], additions[PL_DIMENSIONS];
     uint8_t file[PL_LONGEST], written[PL_LONGEST], yes;
@@ -55,7 +55,7 @@ READING(boundary, boundary(t, words, lent.chain, n, lent.piece->dimension, lent.
 READING(corner, corner(t, words, lent.cell, lent.piece->dimension, &lent.point))
 READING(sheet, sheet(t, words, &lent.yes))
 READING(reduce, reduce(t, words, lent.made, n * lent.row, lent.additions))
-READING(check, check(t, words, lent.evidence, n * lent.row, lent.cells, lent.holes, &lent.bad))
+READING(check, check(t, words, lent.evidence, n * lent.row, lent.cells, lent.holes))
 READING(put, write(t, words, lent.written, PL_LONGEST, &got))
 READING(get, read(lent.target, words, lent.file, lent.length))
 

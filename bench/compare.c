@@ -35,9 +35,7 @@ static void one(const struct calls *s, enum call call, const struct input *in, s
     case CORNER: out->answer = s->corner(out->words, words, in->a, in->b % 8, &out->corner); break;
     case SHEET: out->answer = s->sheet(out->words, words, &out->yes); break;
     case REDUCE: out->answer = s->reduce(out->words, words, out->evidence, in->n * row, out->additions); break;
-    case CHECK:
-        out->answer = s->check(out->words, words, in->evidence, in->n * row, out->cells, out->holes, &out->row);
-        break;
+    case CHECK: out->answer = s->check(out->words, words, in->evidence, in->n * row, out->cells, out->holes); break;
     case WRITE: out->answer = s->write(out->words, words, out->file, in->room, &out->written); break;
     case READ: out->answer = s->read(out->words, words, in->file, in->length); break;
     case CALLS: break;
@@ -50,9 +48,9 @@ static int all(const char *table, const struct input *in, unsigned long seen[CAL
     for (enum call call = AUDIT; call < CALLS; call++) {
         one(&library, call, in, &left);
         one(&plain, call, in, &right);
-        seen[call][left.answer < 17 ? left.answer : 16]++;
+        seen[call][left.answer % 256]++;
         if (memcmp(&left, &right, sizeof left)) {
-            printf("differs: %s on %s, library answers %u, C answers %u\n", names[call], table, left.answer, right.answer);
+            printf("differs: %s on %s, library answers %08x, C answers %08x\n", names[call], table, left.answer, right.answer);
             wrong++;
         }
     }

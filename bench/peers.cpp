@@ -50,8 +50,8 @@ bool by_reducer(const piece &t, Holes &)
 
 bool by_library(const piece &t, Holes &out)
 {
-    uint16_t cells[PL_DIMENSIONS], row;
-    return by_reducer(t, out) && bt_check(t.words, PL_RECORD * t.n, evidence, evidence_words(t), cells, out.of, &row) == 0;
+    uint16_t cells[PL_DIMENSIONS];
+    return by_reducer(t, out) && bt_check(t.words, PL_RECORD * t.n, evidence, evidence_words(t), cells, out.of) == 0;
 }
 
 // Live cells of each dimension; where place is given, each cell's place among those of its dimension.

@@ -1,5 +1,5 @@
 /* The calls of Bumbleturf in plain C, with no proof: what the compiled library is measured against.
- * Names, answers and refusal numbers are those of include/bumbleturf.h, with pl_ in place of bt_. */
+ * Names, answers and refusal words are those of include/bumbleturf.h, with pl_ in place of bt_. */
 #ifndef PLAIN_H
 #define PLAIN_H
 
@@ -34,7 +34,7 @@ uint32_t pl_corner(const uint16_t *table, size_t words, uint16_t cell, uint16_t 
 uint32_t pl_sheet(const uint16_t *table, size_t words, uint8_t *yes);
 uint32_t pl_reduce(const uint16_t *table, size_t words, uint64_t *evidence, size_t evidence_words, uint64_t *additions);
 uint32_t pl_check(const uint16_t *table, size_t words, const uint64_t *evidence, size_t evidence_words,
-                  uint16_t *cells, uint16_t *holes, uint16_t *row);
+                  uint16_t *cells, uint16_t *holes);
 uint32_t pl_write(const uint16_t *table, size_t words, uint8_t *target, size_t target_len, size_t *written);
 uint32_t pl_read(uint16_t *table, size_t words, const uint8_t *file, size_t file_len);
 

@@ -56,8 +56,9 @@ uint32_t pl_reduce(const uint16_t *restrict t, size_t words, uint64_t *restrict 
     size_t n = words / PL_RECORD, w = (n + 63) / 64;
     if (!pl_length(words) || evidence_words != n * w)
         return 1;
-    if (pl_audit(t, words))
-        return 2;
+    uint32_t broken = pl_audit(t, words);
+    if (broken)
+        return broken;
     memset(additions, 0, PL_DIMENSIONS * sizeof *additions);
     if (w == PL_ROW)
         reduce(t, n, PL_ROW, evidence, additions);
@@ -67,13 +68,14 @@ uint32_t pl_reduce(const uint16_t *restrict t, size_t words, uint64_t *restrict 
 }
 
 uint32_t pl_check(const uint16_t *restrict t, size_t words, const uint64_t *restrict evidence, size_t evidence_words,
-                  uint16_t *restrict cells, uint16_t *restrict holes, uint16_t *restrict row)
+                  uint16_t *restrict cells, uint16_t *restrict holes)
 {
     size_t n = words / PL_RECORD, w = (n + 63) / 64;
     if (!pl_length(words) || evidence_words != n * w)
         return 1;
-    if (pl_audit(t, words))
-        return 2;
+    uint32_t broken = pl_audit(t, words);
+    if (broken)
+        return broken;
     uint64_t live[PL_DIMENSIONS][PL_ROW] = {{0}}, used[PL_ROW] = {0};
     uint16_t count[PL_DIMENSIONS] = {0}, rank[PL_DIMENSIONS + 1] = {0};
     for (size_t c = 0; c < n; c++) {
@@ -97,10 +99,8 @@ uint32_t pl_check(const uint16_t *restrict t, size_t words, const uint64_t *rest
                 stray |= set[k];
             stray |= set[c / 64] >> c % 64 ^ 1;
         }
-        if (stray) {
-            *row = (uint16_t)c;
-            return 13;
-        }
+        if (stray)
+            return 13 | (uint32_t)c << 16;
         if (p == PL_FREE || p == 0)
             continue;
         uint64_t b[PL_ROW] = {0};
@@ -113,10 +113,8 @@ uint32_t pl_check(const uint16_t *restrict t, size_t words, const uint64_t *rest
         int top = largest(b, (int)w - 1);
         if (top < 0)
             continue;
-        if (used[top / 64] >> top % 64 & 1) {
-            *row = (uint16_t)c;
-            return 14;
-        }
+        if (used[top / 64] >> top % 64 & 1)
+            return 14 | (uint32_t)c << 16;
         used[top / 64] |= (uint64_t)1 << top % 64;
         rank[p]++;
     }
@@ -148,8 +146,9 @@ uint32_t pl_write(const uint16_t *restrict t, size_t words, uint8_t *restrict ta
 {
     if (!pl_length(words))
         return 1;
-    if (pl_audit(t, words))
-        return 2;
+    uint32_t broken = pl_audit(t, words);
+    if (broken)
+        return broken;
     size_t n = words / PL_RECORD, count[PL_DIMENSIONS] = {0}, at[PL_DIMENSIONS], end = PL_CONTENTS;
     for (size_t c = 0; c < n; c++)
         if (t[PL_RECORD * c] != PL_FREE)
@@ -214,8 +213,8 @@ uint32_t pl_read(uint16_t *restrict t, size_t words, const uint8_t *restrict fil
             in += entry(p);
         }
     }
-    if (!refusal && pl_audit(t, words))
-        refusal = 2;
+    if (!refusal)
+        refusal = pl_audit(t, words);
     if (refusal)
         memset(t, 255, words * sizeof *t);
     return refusal;

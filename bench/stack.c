@@ -47,7 +47,7 @@ static __attribute__((noinline)) void call(void)
     case 3: work.answer = s->boundary(t, words, work.chain, work.n, work.dimension, work.boundary, work.n); break;
     case 4: work.answer = s->sheet(t, words, &work.yes); break;
     case 5: work.answer = s->reduce(t, words, work.made, work.n * work.row, work.additions); break;
-    case 6: work.answer = s->check(t, words, work.evidence, work.n * work.row, work.cells, work.holes, &work.number); break;
+    case 6: work.answer = s->check(t, words, work.evidence, work.n * work.row, work.cells, work.holes); break;
     case 7: work.answer = s->read(t, words, work.file, work.length); break;
     case 8: work.answer = s->write(t, words, work.written, PL_LONGEST, &work.length); break;
     default: work.answer = 0;

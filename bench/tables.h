@@ -39,7 +39,7 @@ struct calls {
     uint32_t (*corner)(const uint16_t *, size_t, uint16_t, uint16_t, uint16_t *);
     uint32_t (*sheet)(const uint16_t *, size_t, uint8_t *);
     uint32_t (*reduce)(const uint16_t *, size_t, uint64_t *, size_t, uint64_t *);
-    uint32_t (*check)(const uint16_t *, size_t, const uint64_t *, size_t, uint16_t *, uint16_t *, uint16_t *);
+    uint32_t (*check)(const uint16_t *, size_t, const uint64_t *, size_t, uint16_t *, uint16_t *);
     uint32_t (*write)(const uint16_t *, size_t, uint8_t *, size_t, size_t *);
     uint32_t (*read)(uint16_t *, size_t, const uint8_t *, size_t);
 };
@@ -49,7 +49,7 @@ extern const struct calls library, plain;
 /* Everything that a call may leave: answer, values, lent buffers. Filled with a fixed byte before the call. */
 struct outcome {
     uint32_t answer;
-    uint16_t words[PL_RECORD * PL_ROOM], kept, apex, corner, cells[PL_DIMENSIONS], holes[PL_DIMENSIONS], row;
+    uint16_t words[PL_RECORD * PL_ROOM], kept, apex, corner, cells[PL_DIMENSIONS], holes[PL_DIMENSIONS];
     int64_t boundary[PL_ROOM], incidence;
     uint64_t evidence[PL_ROOM * PL_ROW], additions[PL_DIMENSIONS];
     uint8_t yes, file[PL_LONGEST + 8];

@@ -1,10 +1,14 @@
-/* Bumbleturf: a proved kernel for sketches of parts.
+/* Bumbleturf 0.2.0: a proved kernel for sketches of parts.
  *
- * A table is 8·N words of 16 bits, N from 1 to 512; the caller lends it and every other buffer. Every function answers 0 when the call
- * is accepted, or the number of its refusal:
+ * Changed since 0.1.0: a refused call answers one word, which has the refusal's number in its lowest eight bits and above them the place
+ * at which a table or evidence is broken. So `== 2`, `== 13` and `== 14` in older C no longer match: write `bt_number(answer) == 2`.
+ * `== 0` still means accepted. bt_check has lost its pointer `row`: the row at fault is bt_cell(answer).
+ *
+ * A table is 8*N words of 16 bits, N from 1 to 512; the caller lends it and every other buffer. Every function answers 0 when the call
+ * is accepted. Otherwise bt_number(answer) is the number of its refusal:
  *
  *    1 a length is not the stated one        9 too few free records, or the target is too short
- *    2 the table is not valid               10 a coefficient outside ±2^40
+ *    2 the table is not valid               10 a coefficient outside -2^40 to 2^40
  *    3 a named or marked number is no cell  11 a coefficient at a number that is no live p-cell
  *    4 merge names one cell twice           12 dimension above 6, or corner index above p
  *    5 dimensions do not fit                13 rule A of the evidence is broken
@@ -12,8 +16,19 @@
  *    7 marks are not closed                 15 the file's contents or length are wrong
  *    8 a marked cell has dimension 6        16 a body number is not below N, not rising, or used twice
  *
- * What a pointer for a value refers to is written on acceptance alone, but for *row of bt_check, which is written with 13 and 14 alone.
- * A refusal changes nothing else that was lent, but for bt_read, which refused with anything but 1 leaves every word 65535.
+ * Refusal 2 of every call names the first breach of the table: the lowest cell, there the record before the faces and these before the
+ * law, then the lowest face place j, then the lowest l. For this search a cell is live when its word 0 is 0 to 6. The reader names the
+ * breach of the table that the file describes. Refusals 13 and 14 name the first row at fault. The bits of an answer:
+ *
+ *    0 to 7    bt_number   the refusal's number
+ *    8 to 9    bt_kind     with 2: BT_RECORD, word 0 is neither 0 to 6 nor 65535, or an unused word is not 65535;
+ *                          BT_FACE, face j names no live cell of the dimension below; BT_LAW, face l of face j is not face j-1 of face l
+ *   10 to 12   bt_place    with BT_FACE and BT_LAW: j
+ *   13 to 15   bt_second   with BT_LAW: l
+ *   16 to 31   bt_cell     with 2 the cell of the breach, with 13 and 14 the row at fault
+ *
+ * and 0 where nothing is said. What a pointer for a value refers to is written on acceptance alone. A refusal changes nothing that was
+ * lent, but for bt_read, which refused with anything but 1 leaves every word 65535.
  * Lengths are counted in elements. Buffers of one call must not overlap. Where a length is 0 the pointer may be null or point anywhere:
  * a buffer of length 0 is never looked into. A pointer for a value is never null. There is no allocation and no global state: calls on
  * different tables may run on different threads at the same time.
@@ -24,9 +39,21 @@
 #include <stddef.h>
 #include <stdint.h>
 
+#define BT_VERSION "0.2.0"
+
 #ifdef __cplusplus
 extern "C" {
 #endif
+
+/* What bt_kind answers for refusal 2; 0 for every other answer. */
+enum bt_breach { BT_RECORD = 1, BT_FACE = 2, BT_LAW = 3 };
+
+/* The parts of an answer, as listed above. */
+static inline uint32_t bt_number(uint32_t answer) { return answer & 255; }
+static inline uint32_t bt_kind(uint32_t answer) { return answer >> 8 & 3; }
+static inline uint32_t bt_place(uint32_t answer) { return answer >> 10 & 7; }
+static inline uint32_t bt_second(uint32_t answer) { return answer >> 13 & 7; }
+static inline uint16_t bt_cell(uint32_t answer) { return (uint16_t)(answer >> 16); }
 
 /* Sets every word to 65535, over any old contents. Refused: 1. */
 uint32_t bt_empty(uint16_t *table, size_t words);
@@ -34,14 +61,14 @@ uint32_t bt_empty(uint16_t *table, size_t words);
 /* Whether the table is valid. Refused: 1, 2. */
 uint32_t bt_audit(const uint16_t *table, size_t words);
 
-/* Adds a point, the apex, and a cone over each marked cell; marks are N/64 rounded up words, bit b of word w marks cell 64·w + b.
+/* Adds a point, the apex, and a cone over each marked cell; marks are N/64 rounded up words, bit b of word w marks cell 64*w + b.
  * Refused: 1, 2, 3, 7, 8, 9. */
 uint32_t bt_cone(uint16_t *table, size_t words, const uint64_t *marks, size_t mark_words, uint16_t *apex);
 
 /* Joins two different live cells of one dimension with equal face lists; the smaller number is kept. Refused: 1 to 6. */
 uint32_t bt_merge(uint16_t *table, size_t words, uint16_t a, uint16_t b, uint16_t *kept);
 
-/* The sum of (−1)^j over the places j at which face j of cell is face; from −3 to 4. Refused: 1, 2, 3, 5. */
+/* The sum of (-1)^j over the places j at which face j of cell is face; from -3 to 4. Refused: 1, 2, 3, 5. */
 uint32_t bt_incidence(const uint16_t *table, size_t words, uint16_t cell, uint16_t face, int64_t *sum);
 
 /* The boundary of a chain of N coefficients in the named dimension, into a second buffer of N. Refused: 1, 2, 12, 10, 11. */
@@ -58,10 +85,10 @@ uint32_t bt_sheet(const uint16_t *table, size_t words, uint8_t *yes);
 /* Fills the evidence, N rows of N/64 rounded up words, and counts the additions made in each dimension. Refused: 1, 2. */
 uint32_t bt_reduce(const uint16_t *table, size_t words, uint64_t *evidence, size_t evidence_words, uint64_t additions[7]);
 
-/* Tests evidence by rules A and B; for each dimension 0 to 6 the live cells and the hole number. *row is written with 13 and 14
- * alone: the first row at fault. Refused: 1, 2, then 13 or 14. */
+/* Tests evidence by rules A and B; for each dimension 0 to 6 the live cells and the hole number. Refused: 1, 2, then 13 or 14 with the
+ * first row at fault. */
 uint32_t bt_check(const uint16_t *table, size_t words, const uint64_t *evidence, size_t evidence_words,
-                  uint16_t cells[7], uint16_t holes[7], uint16_t *row);
+                  uint16_t cells[7], uint16_t holes[7]);
 
 /* Writes the table as a sketch file, at most 8,236 bytes; no byte after the written ones is touched. Refused: 1, 2, 9. */
 uint32_t bt_write(const uint16_t *table, size_t words, uint8_t *target, size_t target_len, size_t *written);

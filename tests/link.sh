@@ -1,6 +1,6 @@
 #!/usr/bin/env bash
 # What a mesher links: the C example as C and as C++, the same example and the tests of the Rust crate, and the installed library through
-# pkg-config. Each example must print examples/c/part.expected to the byte. And buffers that are not there are lent from C.
+# pkg-config. Each example must print examples/c/part.expected to the byte. And from C: buffers that are not there, and the parts of an answer.
 set -eu
 cd "$(dirname "$0")/.."
 missing=()
@@ -46,6 +46,9 @@ prints 'C++' "$place/part-cpp"
 cc -std=c99 "${warnings[@]}" -Iinclude tests/nothing_lent.c "$archive" -o "$place/nothing-lent"
 "$place/nothing-lent"
 printf 'link: null where a length is 0: ok\n'
+cc -std=c99 "${warnings[@]}" -Iinclude tests/answers.c "$archive" -o "$place/answers"
+"$place/answers"
+printf 'link: the parts of an answer: ok\n'
 # A mesher's plug-in is a shared library; the archive must be fit for one.
 cc -shared -fPIC -Iinclude examples/c/part.c "$archive" -o "$place/part.so"
 

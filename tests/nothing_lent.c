@@ -37,8 +37,8 @@ static void no_table(void)
     refused("sheet without a table", bt_sheet(NULL, 0, &yes), LENGTH);
     refused("reduce without a table", bt_reduce(NULL, 0, words, CELLS, additions), LENGTH);
     refused("reduce without anything", bt_reduce(NULL, 0, NULL, 0, additions), LENGTH);
-    refused("check without a table", bt_check(NULL, 0, words, CELLS, cells, holes, &number), LENGTH);
-    refused("check without anything", bt_check(NULL, 0, NULL, 0, cells, holes, &number), LENGTH);
+    refused("check without a table", bt_check(NULL, 0, words, CELLS, cells, holes), LENGTH);
+    refused("check without anything", bt_check(NULL, 0, NULL, 0, cells, holes), LENGTH);
     refused("write without a table", bt_write(NULL, 0, bytes, 1, &written), LENGTH);
     refused("write without anything", bt_write(NULL, 0, NULL, 0, &written), LENGTH);
     refused("read without a table", bt_read(NULL, 0, bytes, 1), LENGTH);
@@ -58,7 +58,7 @@ static void no_other_buffer(void)
     refused("boundary without a chain", bt_boundary(table, WORDS, NULL, 0, 0, chain, CELLS), LENGTH);
     refused("boundary without a result", bt_boundary(table, WORDS, chain, CELLS, 0, NULL, 0), LENGTH);
     refused("reduce without evidence", bt_reduce(table, WORDS, NULL, 0, additions), LENGTH);
-    refused("check without evidence", bt_check(table, WORDS, NULL, 0, cells, holes, &number), LENGTH);
+    refused("check without evidence", bt_check(table, WORDS, NULL, 0, cells, holes), LENGTH);
     refused("write without a target", bt_write(table, WORDS, NULL, 0, &written), NO_ROOM);
     if (table[0] != 0 || number != 0) {
         printf("nothing lent: a refusal has changed the table or a value\n");

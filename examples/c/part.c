@@ -1,4 +1,5 @@
-/* A part built by cones, one call at a time, and its hole numbers after each: a segment, its ends merged, and two caps on the loop. */
+/* A part built by cones, one call at a time, and its hole numbers after each: a segment, its ends merged, and two caps on the loop. Then
+ * two calls that are refused, and a table that was broken by hand. */
 #include <bumbleturf.h>
 #include <stdio.h>
 
@@ -10,10 +11,10 @@ static uint16_t table[8 * N];
 static uint32_t show(const char *what)
 {
     uint64_t evidence[N * MARKS], additions[7];
-    uint16_t cells[7], holes[7], row;
+    uint16_t cells[7], holes[7];
     uint32_t refused = bt_reduce(table, 8 * N, evidence, N * MARKS, additions);
     if (refused == 0)
-        refused = bt_check(table, 8 * N, evidence, N * MARKS, cells, holes, &row);
+        refused = bt_check(table, 8 * N, evidence, N * MARKS, cells, holes);
     if (refused == 0)
         printf("%s: pieces %u, tunnels %u, voids %u\n", what, holes[0], holes[1], holes[2]);
     return refused;
@@ -24,6 +25,19 @@ static uint32_t cone(uint64_t cells, uint16_t *apex)
 {
     uint64_t marks[MARKS] = {cells};
     return bt_cone(table, 8 * N, marks, MARKS, apex);
+}
+
+/* What a refused call says: its number, and with 2 where the table is broken. */
+static void tell(uint32_t answer)
+{
+    const unsigned cell = bt_cell(answer), j = bt_place(answer), l = bt_second(answer);
+    printf("refused %u", (unsigned)bt_number(answer));
+    switch (bt_kind(answer)) {
+    case BT_RECORD: printf(", record of cell %u", cell); break;
+    case BT_FACE: printf(", face %u of cell %u", j, cell); break;
+    case BT_LAW: printf(", faces %u and %u of cell %u", j, l, cell); break;
+    }
+    printf("\n");
 }
 
 static uint32_t run(void)
@@ -41,8 +55,13 @@ static uint32_t run(void)
     if ((refused = show("one cap"))) return refused;
     if ((refused = cone(loop, &apex))) return refused;                      /* a second one shuts in a void */
     if ((refused = show("two caps"))) return refused;
-    printf("a third cap: refused %u\n", (unsigned)cone(loop, &apex));       /* all 8 records are in use */
-    printf("point with edge: refused %u\n", (unsigned)bt_merge(table, 8 * N, a, 2, &a));
+    refused = cone(loop, &apex);                                            /* all 8 records are in use */
+    printf("a third cap: refused %u\n", (unsigned)bt_number(refused));
+    refused = bt_merge(table, 8 * N, a, 2, &a);
+    printf("point with edge: refused %u\n", (unsigned)bt_number(refused));
+    table[8 * 2 + 1] = 700;                                                 /* face 0 of edge 2 */
+    printf("broken by hand: ");
+    tell(bt_audit(table, 8 * N));
     return 0;
 }
 
@@ -50,6 +69,6 @@ int main(void)
 {
     uint32_t refused = run();
     if (refused)
-        fprintf(stderr, "refused %u\n", (unsigned)refused);
+        tell(refused);
     return refused != 0;
 }

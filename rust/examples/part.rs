@@ -1,6 +1,7 @@
-//! A part built by cones, one call at a time, and its hole numbers after each: a segment, its ends merged, and two caps on the loop.
+//! A part built by cones, one call at a time, and its hole numbers after each: a segment, its ends merged, and two caps on the loop. Then
+//! two calls that are refused, and a table that was broken by hand.
 
-use bumbleturf::{evidence_words, Refusal, Table};
+use bumbleturf::{evidence_words, Breach, Refusal, Table, RECORD_WORDS};
 
 /// Reduces, checks the evidence, and prints what it shows.
 fn show(what: &str, part: &Table) -> Result<(), Refusal> {
@@ -29,6 +30,11 @@ fn main() -> Result<(), Refusal> {
     }
     if let Err(refusal) = part.merge(a, edge) {
         println!("point with edge: refused {}", refusal.number());
+    }
+    part.words_mut()[RECORD_WORDS * usize::from(edge) + 1] = 700; // face 0 of the edge
+    match part.audit() {
+        Err(Refusal::Invalid(Breach::Face { cell, place })) => println!("broken by hand: refused 2, face {place} of cell {cell}"),
+        other => println!("broken by hand: {other:?}"),
     }
     Ok(())
 }

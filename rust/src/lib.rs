@@ -15,10 +15,12 @@
 //! # Ok::<(), bumbleturf::Refusal>(())
 //! ```
 
+mod breach;
 mod raw;
 mod refusal;
 mod table;
 
+pub use breach::Breach;
 pub use refusal::Refusal;
 pub use table::{evidence_words, mark_words, Count, Table, CAPACITY, DIMENSIONS, FILE_BYTES, FREE, RECORD_WORDS, TOP_DIMENSION};
 

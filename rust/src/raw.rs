@@ -27,7 +27,6 @@ extern "C" {
         evidence_words: usize,
         cells: *mut [u16; DIMENSIONS],
         holes: *mut [u16; DIMENSIONS],
-        row: *mut u16,
     ) -> u32;
     pub fn bt_write(table: *const u16, words: usize, target: *mut u8, target_len: usize, written: *mut usize) -> u32;
     pub fn bt_read(table: *mut u16, words: usize, file: *const u8, file_len: usize) -> u32;

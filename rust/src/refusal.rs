@@ -2,14 +2,16 @@
 
 use std::fmt;
 
+use crate::Breach;
+
 /// The sixteen refusals; [`Refusal::number`] is the one of `bumbleturf.h`. Several at once: the lowest number applies, but a boundary tests
 /// 12 before 10 and 11, the first row at fault decides between 13 and 14, and the reader tests 1, 15, 16, 2.
 #[derive(Clone, Copy, Debug, PartialEq, Eq, Hash)]
 pub enum Refusal {
     /// 1: the table is not 8·N words with N from 1 to 512, or another buffer has not the length stated for that N.
     Length,
-    /// 2: the table is not valid; for the reader, as the file describes it.
-    Invalid,
+    /// 2: the table is not valid, for the reader as the file describes it; with its first breach.
+    Invalid(Breach),
     /// 3: a named or marked number is not a live cell.
     NotLive,
     /// 4: a merge names one cell twice.
@@ -51,7 +53,7 @@ impl Refusal {
     pub fn number(self) -> u32 {
         match self {
             Refusal::Length => 1,
-            Refusal::Invalid => 2,
+            Refusal::Invalid(_) => 2,
             Refusal::NotLive => 3,
             Refusal::SameCell => 4,
             Refusal::DimensionsDiffer => 5,
@@ -69,28 +71,29 @@ impl Refusal {
         }
     }
 
-    /// What a C name answered; `row` is looked at for 13 and 14 alone.
-    pub(crate) fn answer(number: u32, row: u16) -> Result<(), Refusal> {
-        Err(match number {
-            0 => return Ok(()),
-            1 => Refusal::Length,
-            2 => Refusal::Invalid,
-            3 => Refusal::NotLive,
-            4 => Refusal::SameCell,
-            5 => Refusal::DimensionsDiffer,
-            6 => Refusal::FacesDiffer,
-            7 => Refusal::NotClosed,
-            8 => Refusal::TopMarked,
-            9 => Refusal::NoRoom,
-            10 => Refusal::TooLarge,
-            11 => Refusal::Misplaced,
-            12 => Refusal::NoSuchPlace,
-            13 => Refusal::RuleA { row },
-            14 => Refusal::RuleB { row },
-            15 => Refusal::BadContents,
-            16 => Refusal::BadNumber,
+    /// What a C name answered, in one word: the number in its lowest eight bits, a breach above them, or the row of 13 and 14.
+    pub(crate) fn answer(word: u32) -> Result<(), Refusal> {
+        let row = (word >> 16) as u16;
+        Err(match (word & 255, Breach::unpacked(word)) {
+            (0, _) => return Ok(()),
+            (1, _) => Refusal::Length,
+            (2, Some(breach)) => Refusal::Invalid(breach),
+            (3, _) => Refusal::NotLive,
+            (4, _) => Refusal::SameCell,
+            (5, _) => Refusal::DimensionsDiffer,
+            (6, _) => Refusal::FacesDiffer,
+            (7, _) => Refusal::NotClosed,
+            (8, _) => Refusal::TopMarked,
+            (9, _) => Refusal::NoRoom,
+            (10, _) => Refusal::TooLarge,
+            (11, _) => Refusal::Misplaced,
+            (12, _) => Refusal::NoSuchPlace,
+            (13, _) => Refusal::RuleA { row },
+            (14, _) => Refusal::RuleB { row },
+            (15, _) => Refusal::BadContents,
+            (16, _) => Refusal::BadNumber,
             // Only another archive than the one this crate was written for can answer so.
-            _ => panic!("the linked bumbleturf archive answered {number}, which is no refusal of this version"),
+            _ => panic!("the linked bumbleturf archive answered {word:#x}, which is no refusal of version {}", env!("CARGO_PKG_VERSION")),
         })
     }
 }
@@ -99,7 +102,7 @@ impl fmt::Display for Refusal {
     fn fmt(&self, f: &mut fmt::Formatter<'_>) -> fmt::Result {
         f.write_str(match self {
             Refusal::Length => "a length is not the stated one",
-            Refusal::Invalid => "the table is not valid",
+            Refusal::Invalid(breach) => return write!(f, "the table is not valid; {breach}"),
             Refusal::NotLive => "a named or marked number is not a live cell",
             Refusal::SameCell => "the merge names one cell twice",
             Refusal::DimensionsDiffer => "the dimensions of the two cells do not fit",

@@ -95,7 +95,7 @@ impl<W: AsRef<[u16]>> Table<W> {
     /// Whether the table is valid. Refused: 1, 2.
     pub fn audit(&self) -> Result<(), Refusal> {
         let t = self.words();
-        answer(unsafe { bt_audit(t.as_ptr(), t.len()) })
+        Refusal::answer(unsafe { bt_audit(t.as_ptr(), t.len()) })
     }
 
     /// The sum of (−1)^j over the places j at which face j of `cell` is `face`; from −3 to 4. Refused: 1, 2, 3, and 5 where `face` is not
@@ -103,7 +103,7 @@ impl<W: AsRef<[u16]>> Table<W> {
     pub fn incidence(&self, cell: u16, face: u16) -> Result<i64, Refusal> {
         let t = self.words();
         let mut sum = 0;
-        answer(unsafe { bt_incidence(t.as_ptr(), t.len(), cell, face, &mut sum) })?;
+        Refusal::answer(unsafe { bt_incidence(t.as_ptr(), t.len(), cell, face, &mut sum) })?;
         Ok(sum)
     }
 
@@ -111,14 +111,16 @@ impl<W: AsRef<[u16]>> Table<W> {
     /// dimension above 6, 10 for a coefficient outside ±2^40, 11 for one at a number that is no live cell of that dimension.
     pub fn boundary(&self, chain: &[i64], dimension: u16, boundary: &mut [i64]) -> Result<(), Refusal> {
         let t = self.words();
-        answer(unsafe { bt_boundary(t.as_ptr(), t.len(), chain.as_ptr(), chain.len(), dimension, boundary.as_mut_ptr(), boundary.len()) })
+        Refusal::answer(unsafe {
+            bt_boundary(t.as_ptr(), t.len(), chain.as_ptr(), chain.len(), dimension, boundary.as_mut_ptr(), boundary.len())
+        })
     }
 
     /// Corner `k` of a cell of dimension p. Refused: 1, 2, 3, and 12 where `k` is above p.
     pub fn corner(&self, cell: u16, k: u16) -> Result<u16, Refusal> {
         let t = self.words();
         let mut corner = 0;
-        answer(unsafe { bt_corner(t.as_ptr(), t.len(), cell, k, &mut corner) })?;
+        Refusal::answer(unsafe { bt_corner(t.as_ptr(), t.len(), cell, k, &mut corner) })?;
         Ok(corner)
     }
 
@@ -126,7 +128,7 @@ impl<W: AsRef<[u16]>> Table<W> {
     pub fn sheet(&self) -> Result<bool, Refusal> {
         let t = self.words();
         let mut yes = 0;
-        answer(unsafe { bt_sheet(t.as_ptr(), t.len(), &mut yes) })?;
+        Refusal::answer(unsafe { bt_sheet(t.as_ptr(), t.len(), &mut yes) })?;
         Ok(yes != 0)
     }
 
@@ -134,7 +136,7 @@ impl<W: AsRef<[u16]>> Table<W> {
     pub fn reduce(&self, evidence: &mut [u64]) -> Result<[u64; DIMENSIONS], Refusal> {
         let t = self.words();
         let mut additions = [0; DIMENSIONS];
-        answer(unsafe { bt_reduce(t.as_ptr(), t.len(), evidence.as_mut_ptr(), evidence.len(), &mut additions) })?;
+        Refusal::answer(unsafe { bt_reduce(t.as_ptr(), t.len(), evidence.as_mut_ptr(), evidence.len(), &mut additions) })?;
         Ok(additions)
     }
 
@@ -142,10 +144,7 @@ impl<W: AsRef<[u16]>> Table<W> {
     pub fn check(&self, evidence: &[u64]) -> Result<Count, Refusal> {
         let t = self.words();
         let mut count = Count { cells: [0; DIMENSIONS], holes: [0; DIMENSIONS] };
-        let mut row = 0;
-        let number =
-            unsafe { bt_check(t.as_ptr(), t.len(), evidence.as_ptr(), evidence.len(), &mut count.cells, &mut count.holes, &mut row) };
-        Refusal::answer(number, row)?;
+        Refusal::answer(unsafe { bt_check(t.as_ptr(), t.len(), evidence.as_ptr(), evidence.len(), &mut count.cells, &mut count.holes) })?;
         Ok(count)
     }
 
@@ -161,7 +160,7 @@ impl<W: AsRef<[u16]>> Table<W> {
     pub fn write(&self, target: &mut [u8]) -> Result<usize, Refusal> {
         let t = self.words();
         let mut written = 0;
-        answer(unsafe { bt_write(t.as_ptr(), t.len(), target.as_mut_ptr(), target.len(), &mut written) })?;
+        Refusal::answer(unsafe { bt_write(t.as_ptr(), t.len(), target.as_mut_ptr(), target.len(), &mut written) })?;
         Ok(written)
     }
 
@@ -183,7 +182,7 @@ impl<W: AsRef<[u16]> + AsMut<[u16]>> Table<W> {
     /// Sets every word to 65535, over any old contents. Refused: 1.
     pub fn empty(&mut self) -> Result<(), Refusal> {
         let t = self.words_mut();
-        answer(unsafe { bt_empty(t.as_mut_ptr(), t.len()) })
+        Refusal::answer(unsafe { bt_empty(t.as_mut_ptr(), t.len()) })
     }
 
     /// Adds a point, the apex, and a cone over each marked cell; bit b of word w of the marks, [`mark_words`] of N, marks cell 64·w + b.
@@ -191,7 +190,7 @@ impl<W: AsRef<[u16]> + AsMut<[u16]>> Table<W> {
     pub fn cone(&mut self, marks: &[u64]) -> Result<u16, Refusal> {
         let t = self.words_mut();
         let mut apex = 0;
-        answer(unsafe { bt_cone(t.as_mut_ptr(), t.len(), marks.as_ptr(), marks.len(), &mut apex) })?;
+        Refusal::answer(unsafe { bt_cone(t.as_mut_ptr(), t.len(), marks.as_ptr(), marks.len(), &mut apex) })?;
         Ok(apex)
     }
 
@@ -214,7 +213,7 @@ impl<W: AsRef<[u16]> + AsMut<[u16]>> Table<W> {
     pub fn merge(&mut self, a: u16, b: u16) -> Result<u16, Refusal> {
         let t = self.words_mut();
         let mut kept = 0;
-        answer(unsafe { bt_merge(t.as_mut_ptr(), t.len(), a, b, &mut kept) })?;
+        Refusal::answer(unsafe { bt_merge(t.as_mut_ptr(), t.len(), a, b, &mut kept) })?;
         Ok(kept)
     }
 
@@ -222,11 +221,6 @@ impl<W: AsRef<[u16]> + AsMut<[u16]>> Table<W> {
     /// stays, with any other every word is 65535.
     pub fn read(&mut self, file: &[u8]) -> Result<(), Refusal> {
         let t = self.words_mut();
-        answer(unsafe { bt_read(t.as_mut_ptr(), t.len(), file.as_ptr(), file.len()) })
+        Refusal::answer(unsafe { bt_read(t.as_mut_ptr(), t.len(), file.as_ptr(), file.len()) })
     }
-}
-
-/// What a call without evidence answered: 13 and 14, and so a row, are the checker's alone.
-fn answer(number: u32) -> Result<(), Refusal> {
-    Refusal::answer(number, 0)
 }

@@ -62,7 +62,7 @@ fn a_torus_has_holes_1_2_1() {
 fn words_are_owned_or_borrowed() {
     let mut words = [0; 64];
     let mut table = Table::over(&mut words[..]);
-    assert_eq!(table.audit(), Err(Refusal::Invalid));
+    assert_eq!(table.audit(), Err(Refusal::Invalid(Breach::Record { cell: 0 })));
     table.empty().unwrap();
     table.cone_over(&[]).unwrap();
     assert_eq!(words[..2], [0, FREE]);
@@ -78,7 +78,7 @@ fn each_refusal_comes_with_its_number() {
     assert_eq!(Table::new(usize::MAX), Err(Refusal::Length));
     assert_eq!(Table::over(vec![FREE; RECORD_WORDS * (CAPACITY + 1)]).count(), Err(Refusal::Length));
     assert_eq!(Table::over([FREE; 9]).cone_over(&[600]), Err(Refusal::Length));
-    assert_eq!(Table::over([0; 8]).cone_over(&[600]), Err(Refusal::Invalid));
+    assert_eq!(Table::over([0; 8]).cone_over(&[600]), Err(Refusal::Invalid(Breach::Record { cell: 0 })));
     assert_eq!(merged.cone_over(&[600]), Err(Refusal::NotLive));
     assert_eq!(merged.cone_over(&[63]), Err(Refusal::NotLive));
     assert_eq!(merged.merge(0, 65535), Err(Refusal::NotLive));
@@ -99,11 +99,7 @@ fn each_refusal_comes_with_its_number() {
 
 #[test]
 fn a_cell_of_dimension_6_has_no_cone() {
-    let mut table = Table::new(CAPACITY).unwrap();
-    for _ in 0..7 {
-        let live: Vec<u16> = (0..CAPACITY as u16).filter(|&c| table.words()[RECORD_WORDS * usize::from(c)] != FREE).collect();
-        table.cone_over(&live).unwrap();
-    }
+    let mut table = simplex();
     assert_eq!(table.count().unwrap().cells, [7, 21, 35, 35, 21, 7, 1]);
     let all: Vec<u16> = (0..127).collect();
     assert_eq!(table.cone_over(&all), Err(Refusal::TopMarked));
@@ -118,6 +114,72 @@ fn broken_evidence_names_its_row() {
     assert_eq!(table.check(&evidence).unwrap().holes[..2], [1, 1]);
     evidence[5] = 1;
     assert_eq!(table.check(&evidence), Err(Refusal::RuleA { row: 5 }));
+}
+
+#[test]
+fn a_broken_table_names_its_first_breach() {
+    let refused = |table: &Table| match table.audit() {
+        Err(Refusal::Invalid(breach)) => breach,
+        other => panic!("{other:?}"),
+    };
+    let mut table = torus();
+    table.words_mut()[RECORD_WORDS * 5 + 7] = 0; // an unused word of triangle 5
+    assert_eq!(refused(&table), Breach::Record { cell: 5 });
+    table.words_mut()[RECORD_WORDS * 4 + 3] = 0; // its face 2 names the point
+    assert_eq!(refused(&table), Breach::Face { cell: 4, place: 2 });
+    let breach = refused(&table);
+    assert_eq!(breach.to_string(), "cell 4: face 2 names no live cell of the dimension below");
+    assert_eq!(
+        breach.beside(&table),
+        "cell 4: face 2 names no live cell of the dimension below, in [2, 2, 3, 0, 65535, 65535, 65535, 65535]"
+    );
+    assert_eq!(breach.beside(&Table::over([0; 9])), breach.to_string());
+    assert_eq!(table.merge(0, 0), Err(Refusal::Invalid(breach)));
+
+    // Triangle 3 over edges (1,0), (0,1), (1,0): the pairs (1,0) and (2,1) are broken, and the first is told.
+    let mut table = made(8, &[(0, 0, &[]), (1, 0, &[]), (2, 1, &[1, 0]), (4, 1, &[0, 1])]);
+    table.words_mut()[RECORD_WORDS * 3..][..4].copy_from_slice(&[2, 2, 4, 2]);
+    assert_eq!(refused(&table), Breach::Law { cell: 3, j: 1, l: 0 });
+    assert_eq!(refused(&table).to_string(), "cell 3: face 0 of face 1 is not face 0 of face 0");
+}
+
+/// One cell of dimension 6 with all its faces, 127 cells, by seven cones.
+fn simplex() -> Table {
+    let mut table = Table::new(CAPACITY).unwrap();
+    for cells in [0, 1, 3, 7, 15, 31, 63] {
+        table.cone_over(&(0..cells).collect::<Vec<u16>>()).unwrap();
+    }
+    table
+}
+
+#[test]
+fn the_largest_places_of_a_breach_arrive_whole() {
+    let mut table = simplex();
+    let at = |c: u16| RECORD_WORDS * usize::from(c);
+    let face = |table: &Table, c, j: usize| table.words()[at(c) + 1 + j];
+    let copy = |table: &mut Table, from, to| table.words_mut().copy_within(at(from)..at(from) + RECORD_WORDS, at(to));
+    // A second cell beside face 5 of face 6 of the largest cell, with equal faces; a second face 6 that has it; a second cell over that.
+    let top = 126;
+    let side = face(&table, top, 6);
+    let below = face(&table, side, 5);
+    copy(&mut table, below, 200);
+    copy(&mut table, side, 300);
+    table.words_mut()[at(300) + 6] = 200;
+    copy(&mut table, top, 511);
+    table.audit().unwrap();
+    table.words_mut()[at(511) + 7] = 300;
+    assert_eq!(table.audit(), Err(Refusal::Invalid(Breach::Law { cell: 511, j: 6, l: 5 })));
+    table.words_mut()[at(511) + 7] = 512;
+    assert_eq!(table.audit(), Err(Refusal::Invalid(Breach::Face { cell: 511, place: 6 })));
+}
+
+#[test]
+fn a_refused_file_names_the_breach_of_the_table_it_describes() {
+    let mut file = torus().to_file().unwrap();
+    file[74] = 0; // face 0 of triangle 5 is the point
+    let mut table = torus();
+    assert_eq!(table.read(&file), Err(Refusal::Invalid(Breach::Face { cell: 5, place: 0 })));
+    assert!(table.words().iter().all(|&word| word == FREE));
 }
 
 #[test]
@@ -141,10 +203,29 @@ fn a_file_gives_the_table_back() {
 fn numbers_and_sentences_are_sixteen() {
     let mut sentences = std::collections::HashSet::new();
     for number in 1..=16 {
-        let refusal = Refusal::answer(number, 9).unwrap_err();
+        let above = if number == 2 { 0x0009_0100 } else { 0x0009_0000 };
+        let refusal = Refusal::answer(number | above).unwrap_err();
         assert_eq!(refusal.number(), number);
         sentences.insert(refusal.to_string());
     }
     assert_eq!(sentences.len(), 16);
     assert_eq!(Refusal::RuleA { row: 9 }.to_string(), "the evidence breaks rule A in row 9");
+}
+
+#[test]
+fn a_packed_word_is_taken_apart() {
+    let breach = |word| match Refusal::answer(word) {
+        Err(Refusal::Invalid(breach)) => breach,
+        other => panic!("{other:?}"),
+    };
+    assert_eq!(breach(2 | 1 << 8 | 511 << 16), Breach::Record { cell: 511 });
+    assert_eq!(breach(2 | 2 << 8 | 6 << 10 | 7 << 16), Breach::Face { cell: 7, place: 6 });
+    assert_eq!(breach(2 | 3 << 8 | 6 << 10 | 5 << 13 | 511 << 16), Breach::Law { cell: 511, j: 6, l: 5 });
+    assert_eq!(Refusal::answer(14 | 511 << 16), Err(Refusal::RuleB { row: 511 }));
+}
+
+#[test]
+#[should_panic(expected = "no refusal of version")]
+fn an_older_archive_is_found_out() {
+    let _ = Refusal::answer(2);
 }

@@ -1,5 +1,6 @@
 //! One call with all that is lent to it, and all that it leaves behind: the form in which the model and the library are compared.
 
+use crate::model::breach::Kind;
 use crate::model::table::{Answer, Refusal, DIMENSIONS, FREE, RECORD};
 use crate::model::{building, evidence, reading, sketch};
 
@@ -25,7 +26,7 @@ pub enum Call {
     Read { file: Vec<u8> },
 }
 
-/// The names of the calls and the refusals that 01 gives each of them.
+/// The names of the calls and the refusals that 01 and 02 give each of them.
 pub const NAMES: [(&str, &[u32]); 12] = [
     ("empty", &[1]),
     ("audit", &[1, 2]),
@@ -68,14 +69,51 @@ pub struct Case {
     pub call: Call,
 }
 
-/// What a call left: the refusal's number or 0, what each value pointer refers to, and every buffer.
+/// What a call left: the word of its answer, what each value pointer refers to, and every buffer.
 #[derive(Clone, Debug, PartialEq, Eq)]
 pub struct Outcome {
-    pub number: u32,
+    pub word: u32,
     pub values: Vec<i64>,
     pub after: Case,
     /// Names a buffer next to which a guard word changed.
     pub guard: Option<String>,
+}
+
+impl Outcome {
+    /// The refusal's number, or 0.
+    pub fn number(&self) -> u32 {
+        self.word % 256
+    }
+
+    /// The kind of breach that the answer names: 1 record, 2 face, 3 law, or 0.
+    pub fn kind(&self) -> usize {
+        (self.word / 256 % 4) as usize
+    }
+}
+
+/// The word of a refusal: its number in bits 0 to 7; the kind of a breach in bits 8 and 9, its j in bits 10 to 12, its l in
+/// bits 13 to 15; the cell of the breach, or the row at fault, in bits 16 to 31.
+fn packed(refusal: Refusal) -> u32 {
+    let cell = |number: u16| u32::from(number) << 16;
+    let Some(breach) = refusal.breach else {
+        return refusal.number | refusal.row.map_or(0, cell);
+    };
+    let kind = match breach.kind {
+        Kind::Record => 1,
+        Kind::Face => 2,
+        Kind::Law => 3,
+    };
+    refusal.number | kind << 8 | (breach.j as u32) << 10 | (breach.l as u32) << 13 | cell(breach.cell)
+}
+
+/// A word in parts, for a reader.
+pub fn taken_apart(word: u32) -> String {
+    let (number, kind, j, l, cell) = (word % 256, word >> 8 & 3, word >> 10 & 7, word >> 13 & 7, word >> 16);
+    if word < 256 {
+        number.to_string()
+    } else {
+        format!("{number} (kind {kind}, j {j}, l {l}, cell {cell})")
+    }
 }
 
 /// Something that answers calls: the model or the library.
@@ -84,28 +122,18 @@ pub type Run = fn(&Case) -> Outcome;
 fn one<T: Into<i64>>(answer: Answer<T>, before: i64) -> (u32, Vec<i64>) {
     match answer {
         Ok(value) => (0, vec![value.into()]),
-        Err(refusal) => (refusal.number, vec![before]),
+        Err(refusal) => (packed(refusal), vec![before]),
     }
 }
 
 fn plain(answer: Answer<()>) -> (u32, Vec<i64>) {
-    (answer.map_or_else(|refusal| refusal.number, |()| 0), vec![])
+    (answer.map_or_else(packed, |()| 0), vec![])
 }
 
 fn checked(answer: Answer<evidence::Count>) -> (u32, Vec<i64>) {
-    let mut values = vec![BEFORE_16 as i64; 2 * DIMENSIONS + 1];
     match answer {
-        Ok(count) => {
-            for p in 0..DIMENSIONS {
-                values[p] = count.cells[p] as i64;
-                values[DIMENSIONS + p] = count.holes[p] as i64;
-            }
-            (0, values)
-        }
-        Err(Refusal { number, row }) => {
-            values[2 * DIMENSIONS] = row.map_or(values[2 * DIMENSIONS], i64::from);
-            (number, values)
-        }
+        Ok(count) => (0, [count.cells, count.holes].concat().into_iter().map(i64::from).collect()),
+        Err(refusal) => (packed(refusal), vec![BEFORE_16.into(); 2 * DIMENSIONS]),
     }
 }
 
@@ -113,7 +141,7 @@ fn checked(answer: Answer<evidence::Count>) -> (u32, Vec<i64>) {
 pub fn by_model(case: &Case) -> Outcome {
     let mut after = case.clone();
     let table = &mut after.table;
-    let (number, values) = match &mut after.call {
+    let (word, values) = match &mut after.call {
         Call::Empty => plain(building::empty(table)),
         Call::Audit => plain(building::audit(table)),
         Call::Cone { marks } => one(building::cone(table, marks), BEFORE_16.into()),
@@ -124,13 +152,13 @@ pub fn by_model(case: &Case) -> Outcome {
         Call::Sheet => one(reading::sheet(table), BEFORE_8.into()),
         Call::Reduce { evidence } => match evidence::reduce(table, evidence) {
             Ok(additions) => (0, additions.iter().map(|count| *count as i64).collect()),
-            Err(refusal) => (refusal.number, vec![BEFORE_64; DIMENSIONS]),
+            Err(refusal) => (packed(refusal), vec![BEFORE_64; DIMENSIONS]),
         },
         Call::Check { evidence } => checked(evidence::check(table, evidence)),
         Call::Write { target } => one(sketch::write(table, target).map(|length| length as i64), BEFORE_64),
         Call::Read { file } => plain(sketch::read(table, file)),
     };
-    Outcome { number, values, after, guard: None }
+    Outcome { word, values, after, guard: None }
 }
 
 /// The records of a table that are not free, one to a line, each up to its last word that is not 65535. A table that is no

@@ -34,7 +34,6 @@ extern "C" {
         evidence_words: usize,
         cells: *mut u16,
         holes: *mut u16,
-        row: *mut u16,
     ) -> u32;
     fn bt_write(table: *const u16, words: usize, target: *mut u8, target_len: usize, written: *mut usize) -> u32;
     fn bt_read(table: *mut u16, words: usize, file: *const u8, file_len: usize) -> u32;
@@ -90,7 +89,6 @@ struct Lent {
     byte_value: Guarded<u8>,
     short_values: Guarded<u16>,
     holes: Guarded<u16>,
-    row: Guarded<u16>,
     long_values: Guarded<i64>,
 }
 
@@ -114,7 +112,6 @@ impl Lent {
             byte_value: Guarded::new(&[BEFORE_8], GUARD_8),
             short_values: Guarded::new(&[BEFORE_16; DIMENSIONS], GUARD_16),
             holes: Guarded::new(&[BEFORE_16; DIMENSIONS], GUARD_16),
-            row: Guarded::new(&[BEFORE_16], GUARD_16),
             long_values: Guarded::new(&[BEFORE_64; DIMENSIONS], GUARD_64),
         }
     }
@@ -141,10 +138,7 @@ impl Lent {
                 Call::Corner { cell, k } => bt_corner(table, words, *cell, *k, short),
                 Call::Sheet => bt_sheet(table, words, self.byte_value.start()),
                 Call::Reduce { .. } => bt_reduce(table, words, bits, bit_words, long.cast()),
-                Call::Check { .. } => {
-                    let (holes, row) = (self.holes.start(), self.row.start());
-                    bt_check(table, words, bits, bit_words, short, holes, row)
-                }
+                Call::Check { .. } => bt_check(table, words, bits, bit_words, short, self.holes.start()),
                 Call::Write { .. } => bt_write(table, words, bytes, length, long.cast()),
                 Call::Read { .. } => bt_read(table, words, bytes, length),
             }
@@ -155,7 +149,7 @@ impl Lent {
 /// Answers a call by the library.
 pub fn by_library(case: &Case) -> Outcome {
     let mut lent = Lent::new(case);
-    let number = lent.call(&case.call);
+    let word = lent.call(&case.call);
     let note = &mut None;
     let table = lent.table.end("table", note);
     let bits = lent.bits.end("marks or evidence", note);
@@ -165,7 +159,6 @@ pub fn by_library(case: &Case) -> Outcome {
     let byte: Vec<i64> = widened(lent.byte_value.end("value", note));
     let short: Vec<i64> = widened(lent.short_values.end("value or cell counts", note));
     let holes: Vec<i64> = widened(lent.holes.end("hole numbers", note));
-    let row: Vec<i64> = widened(lent.row.end("row", note));
     let long = lent.long_values.end("value or additions", note);
     let one_short = |note: &mut Option<String>| {
         if short[1..].iter().any(|value| *value != BEFORE_16 as i64) {
@@ -186,12 +179,12 @@ pub fn by_library(case: &Case) -> Outcome {
         Call::Boundary { dimension, .. } => (vec![], Call::Boundary { chain, dimension, result }),
         Call::Sheet => (byte, Call::Sheet),
         Call::Reduce { .. } => (long, Call::Reduce { evidence: bits }),
-        Call::Check { .. } => ([short, holes, row].concat(), Call::Check { evidence: bits }),
+        Call::Check { .. } => ([short, holes].concat(), Call::Check { evidence: bits }),
         Call::Write { .. } => (one_long(note), Call::Write { target: bytes }),
         Call::Read { .. } => (vec![], Call::Read { file: bytes }),
         call @ (Call::Empty | Call::Audit) => (vec![], call),
     };
-    Outcome { number, values, after: Case { table, call }, guard: note.take() }
+    Outcome { word, values, after: Case { table, call }, guard: note.take() }
 }
 
 fn widened<T: Into<i64>>(values: Vec<T>) -> Vec<i64> {

@@ -23,7 +23,7 @@ use std::process::ExitCode;
 
 const USAGE: &str = "\
 second holes < FILE                     prints what the program holes prints
-second cases                            checks cases 1 to 15 of the request
+second cases                            checks the cases whose answers the request gives
 second sketches DIR                     writes example sketch files
 second program PATH [--seed S] [--files N]   runs the program holes on random files
 second compare [--seed S] [--calls N] [--trace]   compares the linked library with the model
@@ -70,7 +70,8 @@ fn compare(arguments: &[String]) -> Result<bool, String> {
     }
     println!("seed {seed}, {calls} calls");
     comparison.all_runs(seed, arguments.iter().any(|argument| argument == "--trace"))?;
-    let all_met = comparison.tally();
+    compare::damages::all(&mut comparison)?;
+    let all_met = comparison.tally.print();
     println!("no difference in {} calls", comparison.made);
     if !all_met {
         return Err("an answer of a call was never met".to_string());

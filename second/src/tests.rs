@@ -1,9 +1,11 @@
 //! Unit tests of the model: the cases of 01, its file, and small properties on random tables.
 
 use crate::call::by_model;
+use crate::compare::damages;
 use crate::compare::runs::Comparison;
 use crate::compare::shrink::shrink;
 use crate::compare::tables::{damage, one_breach, random_room, random_table};
+use crate::model::breach::{first, Kind};
 use crate::model::evidence::{boundary_of_row, check, reduce};
 use crate::model::table::*;
 use crate::model::{building, ranks, reading, sketch};
@@ -12,8 +14,8 @@ use crate::{call::*, cases, examples};
 use std::collections::BTreeSet;
 
 #[test]
-fn cases_1_to_15_and_the_shortcuts() {
-    for (title, case) in cases::ALL {
+fn cases_with_answers() {
+    for (title, case) in cases::titled() {
         assert_eq!(case(by_model), Ok(()), "{title}");
     }
 }
@@ -158,7 +160,7 @@ fn ceilings_are_met() {
     assert_eq!(reduce(&words, &mut [0; 8]).map(|a| a[2]), Ok(1));
     assert_eq!(ceiling(2, 1), 1);
     // The worst star: a point joined to 170 others, then edges parallel to the last, 341 in all.
-    let ends: Vec<[u16; 2]> = (171..512).map(|c| [170, if c <= 340 { 340 - c } else { 0 }]).collect();
+    let ends: Vec<[u16; 2]> = (171..512).map(|c| [170, 340_u16.saturating_sub(c)]).collect();
     let mut star: Vec<(u16, &[u16])> = (0..=170).map(|c| (c, &[][..])).collect();
     star.extend(ends.iter().enumerate().map(|(i, faces)| (171 + i as u16, &faces[..])));
     assert_eq!(reduce(&cases::table(512, &star), &mut [0; 512 * 8]).map(|a| a[1]), Ok(43_435));
@@ -184,7 +186,8 @@ fn sheets() {
 fn random_runs_of_the_model_with_itself() {
     let mut comparison = Comparison::new(by_model, 10_000);
     assert_eq!(comparison.all_runs(3, false), Ok(()));
-    assert!(comparison.tally(), "an answer was never met");
+    assert_eq!(damages::all(&mut comparison), Ok(()));
+    assert!(comparison.tally.print(), "an answer was never met");
 }
 
 /// A model with a fault: a merge that compares sets of faces.
@@ -192,10 +195,10 @@ fn with_sets(case: &Case) -> Outcome {
     if let (Call::Merge { a, b }, Ok(mut table)) = (&case.call, Table::decode(&case.table)) {
         let sorted =
             |number: u16, table: &Table| table.cell(number).map(|cell| BTreeSet::from_iter(cell.faces.clone()));
-        if by_model(case).number == 6 && sorted(*a, &table) == sorted(*b, &table) {
+        if by_model(case).number() == 6 && sorted(*a, &table) == sorted(*b, &table) {
             table.cells[*a.max(b) as usize] = None;
             let after = Case { table: table.encode(), call: case.call.clone() };
-            return Outcome { number: 0, values: vec![*a.min(b) as i64], after, guard: None };
+            return Outcome { word: 0, values: vec![*a.min(b) as i64], after, guard: None };
         }
     }
     by_model(case)
@@ -217,7 +220,7 @@ fn damaged_tables_are_met() {
     let refused = |random: &mut Random| {
         let mut words = random_table(random, 12);
         damage(random, &mut words);
-        building::audit(&words) == refuse(2)
+        building::audit(&words).is_err()
     };
     let count = (0..400).filter(|_| refused(random)).count();
     assert!((150..400).contains(&count), "{count}");
@@ -230,7 +233,6 @@ fn every_single_breach_is_met() {
     let mut met = BTreeSet::new();
     for _ in 0..3000 {
         let words = one_breach(random, 12);
-        assert_eq!(building::audit(&words), refuse(2));
         let record = |number: u16| &words[number as usize * RECORD..][..RECORD];
         let mut broken = vec![];
         for cell in (0..12).filter(|number| (2..=6).contains(&record(*number)[0])) {
@@ -245,7 +247,22 @@ fn every_single_breach_is_met() {
             }
         }
         assert_eq!(broken.len(), 1);
+        let named = building::audit(&words).expect_err("a breach").breach.expect("its place");
+        assert_eq!((named.kind, named.j, named.l), (Kind::Law, broken[0].1, broken[0].2));
         met.extend(broken);
     }
     assert_eq!(met.len(), 3 + 6 + 10 + 15 + 21);
+}
+
+/// 01's validity and 02's breaches agree: a table is valid exactly when it has no breach.
+#[test]
+fn a_table_is_valid_when_it_has_no_breach() {
+    let random = &mut Random::new(10);
+    for _ in 0..3000 {
+        let room = random_room(random, 70);
+        let mut words = random_table(random, room);
+        assert_eq!(first(&words), None);
+        damage(random, &mut words);
+        assert_eq!(building::audit(&words).is_ok(), first(&words).is_none());
+    }
 }

@@ -12,7 +12,7 @@ use lib.ListN.{getD}
 use Rattle.table.specs.Kind.{top, faces, freeMark}
 use Rattle.table.specs.Table.{dim, face}
 use Rattle.audit.specs.Audit.{cellBreach}
-use Rattle.audit.specs.declared.Breach.the-variants.{Sound}
+use Rattle.audit.specs.declared.Found.the-variants.{Sound}
 use Rattle.table.proofs.Places.{used-says}
 use Rattle.audit.proofs.Records.{all-unused, Cell, used-here, face-at, law-here}
 use Rattle.audit.proofs.Valid.{face-says, law-says, passes-cell}

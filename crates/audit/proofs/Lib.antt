@@ -6,3 +6,7 @@ pub mod Records
 pub mod Passes
 pub mod Verdicts
 pub mod Clearing
+pub mod Broken
+pub mod Stops
+pub mod First
+pub mod Naming

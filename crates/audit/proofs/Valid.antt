@@ -14,8 +14,9 @@ use Rattle.table.specs.Table.{cellsOf, dim, face, Live, Valid, sized}
 use Rattle.counting.specs.Counting.{all}
 use Rattle.audit.specs.Audit.{scan, orElse, isSound, recordSound, faceSound, lawSound, lawPlaces, recordBreach, faceBreach, lawBreach, cellBreach, firstBreach, sound, auditGrounds}
 use Rattle.calls.specs.Calls.{verdict}
-use Rattle.audit.specs.declared.Breach.{Breach}
-use Rattle.audit.specs.declared.Breach.the-variants.{Sound, Record, Face, Law}
+use Rattle.audit.specs.declared.Found.{Found}
+use Rattle.audit.specs.declared.Found.the-variants.{Sound, Broken}
+use Rattle.calls.specs.declared.Breach.the-variants.{Record, Face, Law}
 use Rattle.calls.specs.declared.Verdict.the-variants.{Accepted}
 use Rattle.calls.proofs.Grounds.{accepted-none-applies}
 use Rattle.counting.proofs.Cases.{and-left, and-right, and-both}
@@ -110,32 +111,32 @@ pub record SoundCell (t : List ℕ) (c : ℕ) : Type 0 where
   pub faces-hold : (j : ℕ) → j < used (dim t c) → faceSound t c j ≡ true
   pub law-holds : (j l : ℕ) → j < lawPlaces (dim t c) → l < j → lawSound t c j l ≡ true
 
-abbrev pub lawScan : List ℕ → ℕ → ℕ → Breach
+abbrev pub lawScan : List ℕ → ℕ → ℕ → Found
 lawScan t c j = scan (lawBreach t c j) j
 
 pub passed-cell : (t : List ℕ) (c : ℕ) → cellBreach t c ≡ Sound → SoundCell t c
 unfolding cellBreach recordBreach faceBreach lawBreach
 passed-cell t c e =
-    let places : Breach = scan (faceBreach t c) (used (dim t c)) in
-    let pairs : Breach = scan (lawScan t c) (lawPlaces (dim t c)) in
+    let places : Found = scan (faceBreach t c) (used (dim t c)) in
+    let pairs : Found = scan (lawScan t c) (lawPlaces (dim t c)) in
     let later = or-else-right (recordBreach t c) (orElse places pairs) e in
     record {
-      record-holds = picked-sound (recordSound t c) (Record c) refl (or-else-left (recordBreach t c) (orElse places pairs) e);
-      faces-hold = λ j h. picked-sound (faceSound t c j) (Face c j) refl (scan-each (faceBreach t c) (used (dim t c)) (or-else-left places pairs later) j h);
-      law-holds = λ j l h k. picked-sound (lawSound t c j l) (Law c j l) refl (scan-each (lawBreach t c j) j (scan-each (lawScan t c) (lawPlaces (dim t c)) (or-else-right places pairs later) j h) l k);
+      record-holds = picked-sound (recordSound t c) (Broken (Record c)) refl (or-else-left (recordBreach t c) (orElse places pairs) e);
+      faces-hold = λ j h. picked-sound (faceSound t c j) (Broken (Face c j)) refl (scan-each (faceBreach t c) (used (dim t c)) (or-else-left places pairs later) j h);
+      law-holds = λ j l h k. picked-sound (lawSound t c j l) (Broken (Law c j l)) refl (scan-each (lawBreach t c j) j (scan-each (lawScan t c) (lawPlaces (dim t c)) (or-else-right places pairs later) j h) l k);
     }
 
 pub passes-cell : (t : List ℕ) (c : ℕ) → SoundCell t c → cellBreach t c ≡ Sound
 unfolding cellBreach recordBreach faceBreach lawBreach
 passes-cell t c s =
-    let places : Breach = scan (faceBreach t c) (used (dim t c)) in
-    let pairs : Breach = scan (lawScan t c) (lawPlaces (dim t c)) in
+    let places : Found = scan (faceBreach t c) (used (dim t c)) in
+    let pairs : Found = scan (lawScan t c) (lawPlaces (dim t c)) in
     or-else-both (recordBreach t c) (orElse places pairs)
-    (picks-sound (recordSound t c) (Record c) (s .record-holds))
+    (picks-sound (recordSound t c) (Broken (Record c)) (s .record-holds))
     (or-else-both places pairs
-    (scan-none (faceBreach t c) (used (dim t c)) (λ j h. picks-sound (faceSound t c j) (Face c j) (s .faces-hold j h)))
+    (scan-none (faceBreach t c) (used (dim t c)) (λ j h. picks-sound (faceSound t c j) (Broken (Face c j)) (s .faces-hold j h)))
     (scan-none (lawScan t c) (lawPlaces (dim t c))
-    (λ j h. scan-none (lawBreach t c j) j (λ l k. picks-sound (lawSound t c j l) (Law c j l) (s .law-holds j l h k)))))
+    (λ j h. scan-none (lawBreach t c j) j (λ l k. picks-sound (lawSound t c j l) (Broken (Law c j l)) (s .law-holds j l h k)))))
 
 -- The search finds nothing exactly where every cell passes.
 pub sound-cells : (t : List ℕ) → sound t ≡ true → (c : ℕ) → c < cellsOf t → SoundCell t c

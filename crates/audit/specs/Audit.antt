@@ -1,27 +1,29 @@
 -- What the audit computes: the first breach by cell, within a cell the record, then its face places, then the pairs of the law by
--- smallest j, then l. That this says 'sound' exactly for the valid tables of `table` is proved in proofs/Valid.antt.
--- A reader must believe the two grounds at the end; the search above them fixes an order, and is tied to `Valid` by that proof.
+-- smallest j, then l. That this says 'sound' exactly for the valid tables of `table` is proved in proofs/Valid.antt, and that what it
+-- finds is the first breach of specs/First.antt in proofs/First.antt.
+-- A reader must believe the grounds at the end; the search above them is tied to `Valid` and to `IsFirst` by those proofs.
 use mathlib.Core.Bool.{Bool, true, false, _&&_, _||_, not}
 use mathlib.Core.List.{List, [], _∷_}
-use Prim.Native.Nat.{ℕ, zero, suc, _+_, _-_, _≤_, _<_}
+use Prim.Native.Nat.{ℕ, zero, suc, _-_}
 use lib.Dec.{leb, ltb, eqb}
 use Rattle.counting.specs.Counting.{pick, all}
 use Rattle.table.specs.Kind.{top, faces, freeMark, used}
 use Rattle.table.specs.Table.{cellsOf, dim, face, onLength, onLengths}
 use Rattle.calls.specs.Calls.{Ground}
+use Rattle.calls.specs.declared.Refusal.{Refusal}
 use Rattle.calls.specs.declared.Refusal.the-variants.{Invalid}
-use Rattle.audit.specs.declared.Breach.{Breach}
-use Rattle.audit.specs.declared.Breach.the-variants.{Sound, Record, Face, Law}
+use Rattle.calls.specs.declared.Breach.{Breach}
+use Rattle.calls.specs.declared.Breach.the-variants.{Record, Face, Law}
+use Rattle.audit.specs.declared.Found.{Found}
+use Rattle.audit.specs.declared.Found.the-variants.{Sound, Broken}
 
 -- the first breach where there is one, else the second
-abbrev pub orElse : Breach → Breach → Breach
-orElse Sound b = b
-orElse (Record c) b = Record c
-orElse (Face c j) b = Face c j
-orElse (Law c j l) b = Law c j l
+abbrev pub orElse : Found → Found → Found
+orElse Sound f = f
+orElse (Broken b) f = Broken b
 
 -- the first breach of f at 0, 1, .. below n
-unfoldable pub scan : (ℕ → Breach) → ℕ → Breach
+unfoldable pub scan : (ℕ → Found) → ℕ → Found
 scan f zero = Sound
 scan f (suc n) = orElse (scan f n) (f n)
 
@@ -43,36 +45,43 @@ lawSound t c j l = eqb (face t (face t c j) l) (face t (face t c l) (j - 1))
 abbrev pub lawPlaces : ℕ → ℕ
 lawPlaces p = pick (leb 2 p) (used p) 0
 
-unfoldable pub recordBreach : List ℕ → ℕ → Breach
-recordBreach t c = pick (recordSound t c) Sound (Record c)
+unfoldable pub recordBreach : List ℕ → ℕ → Found
+recordBreach t c = pick (recordSound t c) Sound (Broken (Record c))
 
-unfoldable pub faceBreach : List ℕ → ℕ → ℕ → Breach
-faceBreach t c j = pick (faceSound t c j) Sound (Face c j)
+unfoldable pub faceBreach : List ℕ → ℕ → ℕ → Found
+faceBreach t c j = pick (faceSound t c j) Sound (Broken (Face c j))
 
-unfoldable pub lawBreach : List ℕ → ℕ → ℕ → ℕ → Breach
-lawBreach t c j l = pick (lawSound t c j l) Sound (Law c j l)
+unfoldable pub lawBreach : List ℕ → ℕ → ℕ → ℕ → Found
+lawBreach t c j l = pick (lawSound t c j l) Sound (Broken (Law c j l))
 
-unfoldable pub cellBreach : List ℕ → ℕ → Breach
+unfoldable pub cellBreach : List ℕ → ℕ → Found
 cellBreach t c =
     orElse (recordBreach t c)
     (orElse (scan (faceBreach t c) (used (dim t c)))
     (scan (λ j. scan (lawBreach t c j) j) (lawPlaces (dim t c))))
 
-unfoldable pub firstBreach : List ℕ → Breach
+unfoldable pub firstBreach : List ℕ → Found
 firstBreach t = scan (cellBreach t) (cellsOf t)
 
-abbrev pub isSound : Breach → Bool
+abbrev pub isSound : Found → Bool
 isSound Sound = true
-isSound (Record c) = false
-isSound (Face c j) = false
-isSound (Law c j l) = false
+isSound (Broken b) = false
 
 unfoldable pub sound : List ℕ → Bool
 sound t = isSound (firstBreach t)
 
+-- The breach that the search found. Where it found none the ground below does not apply, so what stands here for that is never answered.
+abbrev pub breachIn : Found → Breach
+breachIn Sound = Record 0
+breachIn (Broken b) = b
+
+-- the refusal of a table that is not valid: it names the first breach
+abbrev pub invalid : List ℕ → Refusal
+invalid t = Invalid (breachIn (firstBreach t))
+
 -- Every call but emptying and the reader begins with these two grounds: lengths, then validity. Its own come after them.
 abbrev pub onValidity : List ℕ → Ground
-onValidity t = record { refusal = Invalid; applies = not (sound t) }
+onValidity t = record { refusal = invalid t; applies = not (sound t) }
 
 abbrev pub auditGrounds : List ℕ → List Ground
 auditGrounds t = onLength t ∷ onValidity t ∷ []

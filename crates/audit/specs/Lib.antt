@@ -1,2 +1,3 @@
 pub mod Audit
+pub mod First
 pub mod Empty

@@ -6,19 +6,18 @@ ghost use Prim.Native.Nat.{_≤_, _<_};
 ghost use Rattle.table.specs.Kind.{top, faces, freeMark, used as usedOf};
 ghost use Rattle.table.specs.Table.{cellsOf, dim as dimOf, Sized};
 ghost use Rattle.audit.specs.Audit.{scan, cellBreach, recordSound, lawPlaces, firstBreach, auditGrounds};
-ghost use Rattle.audit.specs.declared.Breach.the-variants.{Sound};
+ghost use Rattle.audit.specs.declared.Found.the-variants.{Sound};
 ghost use Rattle.calls.specs.Calls.{verdict, Ends};
 ghost use Rattle.audit.specs.Empty.{emptyVerdict, emptyLeaves};
+use calls::Breach;
 use calls::Refusal;
 use calls::Verdict;
 use table::Table;
 
-// What the search through a table finds first: nothing wrong, a record, a face at a place, or a pair of places that breaks the law.
-pub enum Breach {
+// What the search through a table finds: nothing wrong, or the first breach.
+pub enum Found {
     Sound,
-    Record(usize),
-    Face(usize, usize),
-    Law(usize, usize, usize),
+    Broken(Breach),
 }
 
 // Sets every word to the free mark, over any old contents. Refused with 1 where the length is no table's; then no word changes.
@@ -140,16 +139,16 @@ fn cleared(t: &[u16], n: usize) -> usize
 // The first breach of a table of the right length: cell by cell the record, then the face places, then the pairs of the law by j,
 // then l. The label leaves every loop at the first failure. The seven faces are read by value once, and f and e lie inside by
 // then, so the law's reads ask nothing more. A part of the audit and no public call: its caller shows the length.
-pub fn first_breach(t: &[u16]) -> Breach
+pub fn first_breach(t: &[u16]) -> Found
     requires { ⌜ Sized (now t) ⌝ }
     ensures { λ r. ⌜ r ≡ firstBreach (now (t .entry)) ⌝ }
 {
     let n = Table::room(t);
     let start = cleared(t, n);
-    let mut found = Breach::Sound;
+    let mut found = Found::Sound;
     'cells: for c in start..n {
         if !record_sound(t, c) {
-            found = Breach::Record(c);
+            found = Found::Broken(Breach::Record(c));
             break 'cells;
         }
         let p = Table::dim(t, c);
@@ -159,11 +158,11 @@ pub fn first_breach(t: &[u16]) -> Breach
         for j in 0..used {
             let f = faces[j] as usize;
             if f >= n {
-                found = Breach::Face(c, j);
+                found = Found::Broken(Breach::Face(c, j));
                 break 'cells;
             }
             if Table::dim(t, f) as usize + 1 != p as usize {
-                found = Breach::Face(c, j);
+                found = Found::Broken(Breach::Face(c, j));
                 break 'cells;
             }
         }
@@ -172,7 +171,7 @@ pub fn first_breach(t: &[u16]) -> Breach
             for l in 0..j {
                 let e = faces[l] as usize;
                 if Table::face(t, f, l) != Table::face(t, e, j - 1) {
-                    found = Breach::Law(c, j, l);
+                    found = Found::Broken(Breach::Law(c, j, l));
                     break 'cells;
                 }
             }
@@ -181,7 +180,7 @@ pub fn first_breach(t: &[u16]) -> Breach
     found
 }
 
-// Valid, or refused with 1 for the length and 2 for anything else.
+// Valid, or refused with 1 for the length and 2 for anything else: 2 goes with the first breach.
 pub fn audit(t: &[u16]) -> Verdict
     ensures { λ r. ⌜ r ≡ verdict (auditGrounds (now (t .entry))) ⌝ }
 {
@@ -190,9 +189,7 @@ pub fn audit(t: &[u16]) -> Verdict
     }
     let found = first_breach(t);
     match found {
-        Breach::Sound => Verdict::Accepted,
-        Breach::Record(_) => Verdict::Refused(Refusal::Invalid),
-        Breach::Face(_, _) => Verdict::Refused(Refusal::Invalid),
-        Breach::Law(_, _, _) => Verdict::Refused(Refusal::Invalid),
+        Found::Sound => Verdict::Accepted,
+        Found::Broken(b) => Verdict::Refused(Refusal::Invalid(b)),
     }
 }

@@ -1,4 +1,6 @@
 pub mod Grounds
 pub mod Outcomes
 pub mod Numbers
+pub mod Word
+pub mod Givens
 pub mod Order

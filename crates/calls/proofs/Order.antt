@@ -1,27 +1,22 @@
 -- Where the numbers of a call's grounds rise, the one that is answered is the lowest of those that apply.
 -- What carries it: the first that applies is answered, and all after it have higher numbers. Assumes nothing.
-use mathlib.Core.Path.{_≡_, refl, sym, ap, subst, _∙_}
-use mathlib.Core.Bool.{Bool, true, false, false≢true}
+use mathlib.Core.Path.{_≡_, sym, subst, _∙_}
+use mathlib.Core.Bool.{true, false, false≢true}
 use mathlib.Core.List.{List, [], _∷_}
-use mathlib.Core.Logic.{_⊎_, inl, inr, ⊎-elim}
+use mathlib.Core.Logic.{⊎-elim}
 use Prim.Native.Nat.{ℕ, _≤_, _<_}
 use native.Mathlib.Omega.{arith}
-use Rattle.counting.specs.Counting.{pick}
 use Rattle.calls.specs.Numbers.{numberOf}
 use Rattle.calls.specs.Calls.{Ground, verdict}
 use Rattle.calls.specs.Order.{Applies, Lowest, RisesFrom}
 use Rattle.calls.specs.Order.Applies.{here, later}
+use Rattle.calls.proofs.Givens.{first-or-later}
 use Rattle.calls.specs.declared.Refusal.{Refusal}
-use Rattle.calls.specs.declared.Verdict.{Verdict}
-use Rattle.calls.specs.declared.Verdict.the-variants.{Accepted, Refused}
+use Rattle.calls.specs.declared.Verdict.the-variants.{Refused}
 
 above : (n m : ℕ) (gs : List Ground) → RisesFrom n gs → Applies gs m → n < m
 above n m (g ∷ gs) rise (here e) = rise .0
 above n m (g ∷ gs) rise (later a) = omega (arith, rise .0, above (numberOf (g .refusal)) m gs (rise .1) a)
-
-first-is : (b : Bool) (x r : Refusal) (v : Verdict) → pick b (Refused x) v ≡ Refused r → ((b ≡ true) × (x ≡ r)) ⊎ ((b ≡ false) × (v ≡ Refused r))
-first-is true x r v e = inl (refl, cc)
-first-is false x r v e = inr (refl, e)
 
 module _ (g : Ground) (gs : List Ground) where
   -- the first ground applies: its number is below those of the others
@@ -46,4 +41,4 @@ lowest-applies n (g ∷ gs) r rise e =
     ⊎-elim
     (λ q. subst (Lowest (g ∷ gs)) (q .1) (at-first g gs (rise .1) (q .0)))
     (λ q. past-first g gs r (q .0) (lowest-applies (numberOf (g .refusal)) gs r (rise .1) (q .1)))
-    (first-is (g .applies) (g .refusal) r (verdict gs) e)
+    (first-or-later (g .applies) (g .refusal) r (verdict gs) e)

@@ -1,3 +1,4 @@
 pub mod Numbers
+pub mod Packed
 pub mod Calls
 pub mod Order

@@ -1,4 +1,4 @@
--- The number that each refusal carries in the published list, and the row that the two rules of evidence name.
+-- The number that each refusal carries in the published list.
 -- A reader must believe these definitions; nothing here is proved.
 use Prim.Native.Nat.{ℕ}
 use Rattle.calls.specs.declared.Refusal.{Refusal}
@@ -6,7 +6,7 @@ use Rattle.calls.specs.declared.Refusal.the-variants.{Length, Invalid, N
 
 abbrev pub numberOf : Refusal → ℕ
 numberOf Length = 1
-numberOf Invalid = 2
+numberOf (Invalid b) = 2
 numberOf NotLive = 3
 numberOf SameCell = 4
 numberOf DimensionsDiffer = 5
@@ -21,22 +21,3 @@ numberOf (RuleA c) = 13
 numberOf (RuleB c) = 14
 numberOf BadContents = 15
 numberOf BadNumber = 16
-
--- the row that rules A and B name, and otherwise what stood there
-abbrev pub rowNamed : Refusal → ℕ → ℕ
-rowNamed Length old = old
-rowNamed Invalid old = old
-rowNamed NotLive old = old
-rowNamed SameCell old = old
-rowNamed DimensionsDiffer old = old
-rowNamed FacesDiffer old = old
-rowNamed NotClosed old = old
-rowNamed TopMarked old = old
-rowNamed NoRoom old = old
-rowNamed TooLarge old = old
-rowNamed Misplaced old = old
-rowNamed NoSuchPlace old = old
-rowNamed (RuleA c) old = c
-rowNamed (RuleB c) old = c
-rowNamed BadContents old = old
-rowNamed BadNumber old = old

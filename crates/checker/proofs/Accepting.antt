@@ -17,7 +17,7 @@ use Rattle.bitset.specs.Bits.{wordsFor, fullWidth}
 use Rattle.counting.specs.Counting.{pick}
 use Rattle.table.specs.Kind.{capacity}
 use Rattle.table.specs.Table.{cellsOf, Valid, sized}
-use Rattle.audit.specs.Audit.{sound, auditGrounds}
+use Rattle.audit.specs.Audit.{sound, invalid, auditGrounds}
 use Rattle.calls.specs.Calls.{verdict}
 use Rattle.calls.specs.declared.Refusal.{Refusal}
 use Rattle.calls.specs.declared.Refusal.the-variants as refusals
@@ -57,7 +57,7 @@ pub refused-length : (t ev : List ℕ) → lengthsFit t ev ≡ false → checkVe
 unfolding checkVerdict
 refused-length t ev e = rw e
 
-pub refused-invalid : (t ev : List ℕ) → lengthsFit t ev ≡ true → sound t ≡ false → checkVerdict t ev ≡ Refused refusals.Invalid
+pub refused-invalid : (t ev : List ℕ) → lengthsFit t ev ≡ true → sound t ≡ false → checkVerdict t ev ≡ Refused (invalid t)
 unfolding checkVerdict
 refused-invalid t ev e f = rw (e, f)
 
@@ -87,7 +87,7 @@ pub record RowsDecide (t ev : List ℕ) (v : Verdict) : Type 0 where
   pub long : length ev ≡ evidenceWords (cells t)
   pub by-rows : verdict (allRows (cells t) ev) ≡ v
 
-past-grounds : (t ev : List ℕ) (v : Verdict) (a b : Bool) → lengthsFit t ev ≡ a → sound t ≡ b → pick (not a) (Refused refusals.Length) (pick (not b) (Refused refusals.Invalid) (verdict (allRows (cells t) ev))) ≡ v → (Refused refusals.Length ≡ v → ⊥) → (Refused refusals.Invalid ≡ v → ⊥) → RowsDecide t ev v
+past-grounds : (t ev : List ℕ) (v : Verdict) (a b : Bool) → lengthsFit t ev ≡ a → sound t ≡ b → pick (not a) (Refused refusals.Length) (pick (not b) (Refused (invalid t)) (verdict (allRows (cells t) ev))) ≡ v → (Refused refusals.Length ≡ v → ⊥) → (Refused (invalid t) ≡ v → ⊥) → RowsDecide t ev v
 past-grounds t ev v true true f s e x y =
     let fit = and-left (sized t) (eqb (length ev) (evidenceWords (cells t))) f in
     record {
@@ -98,7 +98,7 @@ past-grounds t ev v true true f s e x y =
 past-grounds t ev v true false f s e x y = absurd (y e)
 past-grounds t ev v false b f s e x y = absurd (x e)
 
-decided : (t ev : List ℕ) (v : Verdict) → checkVerdict t ev ≡ v → (Refused refusals.Length ≡ v → ⊥) → (Refused refusals.Invalid ≡ v → ⊥) → RowsDecide t ev v
+decided : (t ev : List ℕ) (v : Verdict) → checkVerdict t ev ≡ v → (Refused refusals.Length ≡ v → ⊥) → (Refused (invalid t) ≡ v → ⊥) → RowsDecide t ev v
 unfolding checkVerdict
 decided t ev v e = past-grounds t ev v (lengthsFit t ev) (sound t) refl refl e
 

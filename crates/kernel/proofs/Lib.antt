@@ -2,3 +2,4 @@ pub mod Telling
 pub mod Outcomes
 pub mod Meaning
 pub mod Lowest
+pub mod Breaches

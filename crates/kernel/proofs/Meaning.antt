@@ -5,11 +5,9 @@ use mathlib.Core.List.{List}
 use Prim.Native.Nat.{ℕ, _≤_}
 use native.Mathlib.Omega.{arith}
 use lib.ListN.{getD}
-use Rattle.calls.specs.Numbers.{numberOf}
-use Rattle.calls.specs.declared.Refusal.{Refusal}
 use Rattle.calls.specs.declared.Verdict.{Verdict}
 use Rattle.calls.specs.declared.Verdict.the-variants.{Accepted, Refused}
-use Rattle.calls.proofs.Numbers.{number-above-zero}
+use Rattle.calls.proofs.Word.{word-above-zero}
 use Rattle.homology.specs.Holes.{IsHoleNumber}
 use Rattle.homology.specs.Evidence.{holesIn}
 use Rattle.table.specs.Kind.{top, dimensions}
@@ -25,10 +23,10 @@ use Rattle.kernel.specs.Calls.{CheckEnds}
 -- 0 is the code of acceptance alone
 zero-accepts : (v : Verdict) → code v ≡ 0 → v ≡ Accepted
 zero-accepts Accepted e = refl
-zero-accepts (Refused r) e = absurd (omega (arith, number-above-zero r))
+zero-accepts (Refused r) e = absurd (omega (arith, word-above-zero r))
 
-pub check-means : (t ev c₀ h₀ : List ℕ) (w₀ : ℕ) (c h : List ℕ) (w : ℕ) → CheckEnds t ev c₀ h₀ w₀ 0 c h w → (p : ℕ) → p ≤ top → IsHoleNumber (cells t) p (getD h p 0)
-check-means t ev c₀ h₀ w₀ c h w ends p low =
+pub check-means : (t ev c₀ h₀ c h : List ℕ) → CheckEnds t ev c₀ h₀ 0 c h → (p : ℕ) → p ≤ top → IsHoleNumber (cells t) p (getD h p 0)
+check-means t ev c₀ h₀ c h ends p low =
     let e : checkVerdict t ev ≡ Accepted = zero-accepts (checkVerdict t ev) (sym (ends .answer)) in
     let told : h ≡ listed dimensions (holesIn (cells t) (rows (cells t) ev)) = ends .holes-told ∙ ap (λ (v : Verdict). sevenAfter v (listed dimensions (holesIn (cells t) (rows (cells t) ev))) h₀) e in
     subst (IsHoleNumber (cells t) p)

@@ -5,7 +5,6 @@ use mathlib.Core.List.{List}
 use Prim.Native.Nat.{ℕ}
 use native.Mathlib.Omega.{arith}
 use lib.IntN.{ℤ}
-use Rattle.calls.specs.declared.Refusal.{Refusal}
 use Rattle.calls.specs.declared.Verdict.{Verdict}
 use Rattle.calls.specs.declared.Verdict.the-variants.{Accepted, Refused}
 use Rattle.calls.proofs.Outcomes.{one-outcome}
@@ -44,12 +43,11 @@ one-corner t c k o r r′ v v′ p q = one-outcome p q
 pub one-sheet : (t : List ℕ) (o r r′ v v′ : ℕ) → SheetEnds t o r v → SheetEnds t o r′ v′ → (r ≡ r′) × (v ≡ v′)
 one-sheet t o r r′ v v′ p q = one-outcome p q
 
-pub one-check : (t ev c h c′ h′ c″ h″ : List ℕ) (o r r′ w w′ : ℕ) → CheckEnds t ev c h o r c′ h′ w → CheckEnds t ev c h o r′ c″ h″ w′ → (r ≡ r′) × (c′ ≡ c″) × (h′ ≡ h″) × (w ≡ w′)
-one-check t ev c h c′ h′ c″ h″ o r r′ w w′ p q = (
+pub one-check : (t ev c h c′ h′ c″ h″ : List ℕ) (r r′ : ℕ) → CheckEnds t ev c h r c′ h′ → CheckEnds t ev c h r′ c″ h″ → (r ≡ r′) × (c′ ≡ c″) × (h′ ≡ h″)
+one-check t ev c h c′ h′ c″ h″ r r′ p q = (
   p .answer ∙ sym (q .answer),
   p .cells-told ∙ sym (q .cells-told),
   p .holes-told ∙ sym (q .holes-told),
-  p .row-told ∙ sym (q .row-told),
 )
 
 -- what the exported reducer leaves where it accepts is what the call beneath it may leave

@@ -1,14 +1,13 @@
 -- From what a call ensures to what its C function ensures: the answer's code, and the value on acceptance alone.
 -- What carries each: the answer is the definition's, so its code and its value are too. Assumes nothing.
-use mathlib.Core.Path.{_≡_, refl, sym, ap, subst, _∙_}
+use mathlib.Core.Path.{_≡_, refl, sym, ap, _∙_}
 use mathlib.Core.List.{List}
-use Prim.Native.Nat.{ℕ, _+_}
+use Prim.Native.Nat.{ℕ}
 use native.Mathlib.Omega.{arith}
-use lib.ListN.{replicate}
 use Rattle.homology.specs.Evidence.{cellsIn, holesIn}
 use Rattle.calls.specs.Calls.{Ends}
 use Rattle.counting.specs.Counting.{listed}
-use Rattle.calls.specs.Numbers.{numberOf, rowNamed}
+use Rattle.calls.specs.Packed.{packedOf}
 use Rattle.calls.specs.declared.Refusal.{Refusal}
 use Rattle.calls.specs.declared.Verdict.{Verdict}
 use Rattle.calls.specs.declared.Verdict.the-variants.{Accepted, Refused}
@@ -17,10 +16,10 @@ use Rattle.complex.specs.Cells.{cells}
 use Rattle.rows.specs.Rows.{rows}
 use Rattle.checker.specs.Check.{checkVerdict, perDimension, Checks}
 use Rattle.checker.specs.declared.Checked.{Checked}
-use Rattle.reducer.specs.Reduce.{Reduces, Reduction, reduceVerdict}
+use Rattle.reducer.specs.Reduce.{Reduces, reduceVerdict}
 use Rattle.reducer.specs.declared.Reduced.{Reduced}
 use Rattle.writer.specs.declared.Written.{Written}
-use Rattle.kernel.specs.Face.{code, writtenCode, writtenValue, sevenAfter, rowAfter, Fills}
+use Rattle.kernel.specs.Face.{code, writtenCode, writtenValue, sevenAfter, Fills}
 use Rattle.kernel.specs.Calls.{CheckEnds, ReduceEnds}
 
 -- a verdict's code
@@ -55,7 +54,7 @@ module _ (t ev : List ℕ) (r : Reduced) (ev′ : List ℕ) (h : Reduces t ev r 
         accepted = λ q. h .accepted q;
       }
 
-  pub reduce-refused : (x : Refusal) (n : ℕ) → r .verdict ≡ Refused x → n ≡ numberOf x → ReduceEnds t ev old n ev′ old
+  pub reduce-refused : (x : Refusal) (n : ℕ) → r .verdict ≡ Refused x → n ≡ packedOf x → ReduceEnds t ev old n ev′ old
   reduce-refused x n e q =
       let v : reduceVerdict t ev ≡ Refused x = sym (h .verdict-is) ∙ e in
       record {
@@ -64,23 +63,21 @@ module _ (t ev : List ℕ) (r : Reduced) (ev′ : List ℕ) (h : Reduces t ev r 
         accepted = λ w. absurd (accepted-not-refused (reduceVerdict t ev) x w v);
       }
 
-module _ (t ev : List ℕ) (r : Checked) (h : Checks t ev r) (cells₀ holes₀ : List ℕ) (row₀ : ℕ) where
-  pub check-accepted : r .verdict ≡ Accepted → CheckEnds t ev cells₀ holes₀ row₀ 0 (r .cells) (r .holes) row₀
+module _ (t ev : List ℕ) (r : Checked) (h : Checks t ev r) (cells₀ holes₀ : List ℕ) where
+  pub check-accepted : r .verdict ≡ Accepted → CheckEnds t ev cells₀ holes₀ 0 (r .cells) (r .holes)
   check-accepted e =
       let v : checkVerdict t ev ≡ Accepted = sym (h .verdict-is) ∙ e in
       record {
         answer = sym (ap code v);
         cells-told = h .cells-are ∙ ap (λ w. perDimension w (cellsIn (cells t))) v ∙ sym (ap (λ w. sevenAfter w (listed dimensions (cellsIn (cells t))) cells₀) v);
         holes-told = h .holes-are ∙ ap (λ w. perDimension w (holesIn (cells t) (rows (cells t) ev))) v ∙ sym (ap (λ w. sevenAfter w (listed dimensions (holesIn (cells t) (rows (cells t) ev))) holes₀) v);
-        row-told = sym (ap (λ w. rowAfter w row₀) v);
       }
 
-  pub check-refused : (x : Refusal) (n row₁ : ℕ) → r .verdict ≡ Refused x → Ends (numberOf x) (rowNamed x row₀) n row₁ → CheckEnds t ev cells₀ holes₀ row₀ n cells₀ holes₀ row₁
-  check-refused x n row₁ e a =
+  pub check-refused : (x : Refusal) (n : ℕ) → r .verdict ≡ Refused x → n ≡ packedOf x → CheckEnds t ev cells₀ holes₀ n cells₀ holes₀
+  check-refused x n e a =
       let v : checkVerdict t ev ≡ Refused x = sym (h .verdict-is) ∙ e in
       record {
-        answer = a .answer ∙ sym (ap code v);
+        answer = a ∙ sym (ap code v);
         cells-told = sym (ap (λ w. sevenAfter w (listed dimensions (cellsIn (cells t))) cells₀) v);
         holes-told = sym (ap (λ w. sevenAfter w (listed dimensions (holesIn (cells t) (rows (cells t) ev))) holes₀) v);
-        row-told = a .left ∙ sym (ap (λ w. rowAfter w row₀) v);
       }

@@ -25,7 +25,7 @@ use Rattle.reducer.specs.Reduce.{Reduction, reduceVerdict}
 use Rattle.checker.specs.Check.{checkVerdict}
 use Rattle.writer.specs.Write.{writeAnswer, writeLeaves}
 use Rattle.sketch.specs.Read.{readVerdict, readLeaves}
-use Rattle.kernel.specs.Face.{code, namedCode, namedValue, sumCode, sumValue, judgedCode, judgedValue, writtenCode, writtenValue, sevenAfter, rowAfter, Fills}
+use Rattle.kernel.specs.Face.{code, namedCode, namedValue, sumCode, sumValue, judgedCode, judgedValue, writtenCode, writtenValue, sevenAfter, Fills}
 
 abbrev pub EmptyEnds : List ℕ → ℕ → List ℕ → Type 0
 EmptyEnds t r t′ = Ends (code (emptyVerdict t)) (emptyLeaves t) r t′
@@ -60,12 +60,11 @@ pub record ReduceEnds (t ev additions₀ : List ℕ) (r : ℕ) (ev′ additions 
   pub refused-left : (x : Refusal) → reduceVerdict t ev ≡ Refused x → (ev′ ≡ ev) × (additions ≡ additions₀)
   pub accepted : reduceVerdict t ev ≡ Accepted → Reduction (cells t) ev′ additions
 
--- the checker: live cells and hole numbers on acceptance, the row with 13 and 14
-pub record CheckEnds (t ev cells₀ holes₀ : List ℕ) (row₀ r : ℕ) (cells′ holes : List ℕ) (row : ℕ) : Type 0 where
+-- the checker: live cells and hole numbers on acceptance
+pub record CheckEnds (t ev cells₀ holes₀ : List ℕ) (r : ℕ) (cells′ holes : List ℕ) : Type 0 where
   pub answer : r ≡ code (checkVerdict t ev)
   pub cells-told : cells′ ≡ sevenAfter (checkVerdict t ev) (listed dimensions (cellsIn (cells t))) cells₀
   pub holes-told : holes ≡ sevenAfter (checkVerdict t ev) (listed dimensions (holesIn (cells t) (rows (cells t) ev))) holes₀
-  pub row-told : row ≡ rowAfter (checkVerdict t ev) row₀
 
 abbrev pub WriteEnds : List ℕ → List ℕ → ℕ → ℕ → List ℕ → ℕ → Type 0
 WriteEnds t target₀ written₀ r target written =

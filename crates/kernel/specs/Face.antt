@@ -1,12 +1,11 @@
--- The face for C and Rust: every function answers 0 or the refusal's number, and a value is written on acceptance alone. Each
+-- The face for C and Rust: every function answers 0 or the refusal in one word, and a value is written on acceptance alone. Each
 -- description is the call's own, put into these words.
 -- A reader must believe these definitions; nothing here is proved.
 use mathlib.Core.Path.{_≡_}
 use mathlib.Core.List.{List}
 use Prim.Native.Nat.{ℕ}
 use lib.IntN.{ℤ}
-use Rattle.calls.specs.Numbers.{numberOf, rowNamed}
-use Rattle.calls.specs.declared.Refusal.{Refusal}
+use Rattle.calls.specs.Packed.{packedOf}
 use Rattle.calls.specs.declared.Verdict.{Verdict}
 use Rattle.calls.specs.declared.Verdict.the-variants.{Accepted, Refused}
 use Rattle.calls.specs.declared.Named.{Named}
@@ -18,27 +17,27 @@ use Rattle.sheet.specs.declared.Judged.the-variants.{Yes, No, NotJudged}
 use Rattle.writer.specs.declared.Written.{Written}
 use Rattle.writer.specs.declared.Written.the-variants.{Bytes, NotWritten}
 
--- 0 for an accepted call, else the refusal's number
+-- 0 for an accepted call, else the refusal's word
 abbrev pub code : Verdict → ℕ
 code Accepted = 0
-code (Refused r) = numberOf r
+code (Refused r) = packedOf r
 
 abbrev pub namedCode : Named → ℕ
 namedCode (Cell c) = 0
-namedCode (NoCell r) = numberOf r
+namedCode (NoCell r) = packedOf r
 
 abbrev pub sumCode : Sum → ℕ
 sumCode (Is z) = 0
-sumCode (NoSum r) = numberOf r
+sumCode (NoSum r) = packedOf r
 
 abbrev pub judgedCode : Judged → ℕ
 judgedCode Yes = 0
 judgedCode No = 0
-judgedCode (NotJudged r) = numberOf r
+judgedCode (NotJudged r) = packedOf r
 
 abbrev pub writtenCode : Written → ℕ
 writtenCode (Bytes n) = 0
-writtenCode (NotWritten r) = numberOf r
+writtenCode (NotWritten r) = packedOf r
 
 -- what stands behind a value's pointer afterwards: the value, or on a refusal what stood there
 abbrev pub namedValue : Named → ℕ → ℕ
@@ -62,11 +61,6 @@ writtenValue (NotWritten r) old = old
 abbrev pub sevenAfter : Verdict → List ℕ → List ℕ → List ℕ
 sevenAfter Accepted new old = new
 sevenAfter (Refused r) new old = old
-
--- the row behind its pointer afterwards: written with 13 and 14 alone
-abbrev pub rowAfter : Verdict → ℕ → ℕ
-rowAfter Accepted old = old
-rowAfter (Refused r) old = rowNamed r old
 
 -- a call that answers r, leaves l in its buffer and v behind the value's pointer
 pub record Fills (code : ℕ) (left : List ℕ) (value r : ℕ) (l : List ℕ) (v : ℕ) : Type 0 where

@@ -1,6 +1,5 @@
-// The face for C and Rust: one function for each public call, no logic of its own. Each answers 0 or the refusal's number, and writes
-// a value on acceptance alone; the checker's row is written with 13 and 14 alone. A 7 in a signature is the number of dimensions, as the
-// header for C has it.
+// The face for C and Rust: one function for each public call, no logic of its own. Each answers 0 or the refusal in one word, and writes
+// a value on acceptance alone. A 7 in a signature is the number of dimensions, as the header for C has it.
 ghost use mathlib.Core.Path.{_≡_};
 ghost use Rattle.calls.specs.Calls.{Ends};
 ghost use Rattle.kernel.specs.Face.{code, namedCode, namedValue};
@@ -11,13 +10,13 @@ use reading::Sum;
 use sheet::Judged;
 use writer::Written;
 
-// 0 for an accepted call, else the refusal's number.
+// 0 for an accepted call, else the refusal in one word.
 fn code_of(v: Verdict) -> u32
     ensures { λ r. ⌜ r ≡ code v ⌝ }
 {
     match v {
         Verdict::Accepted => 0,
-        Verdict::Refused(r) => calls::number(r),
+        Verdict::Refused(r) => calls::packed(r),
     }
 }
 
@@ -30,7 +29,7 @@ fn name_cell(n: Named, value: &mut u16) -> u32
             *value = c;
             0
         }
-        Named::NoCell(r) => calls::number(r),
+        Named::NoCell(r) => calls::packed(r),
     }
 }
 
@@ -72,7 +71,7 @@ pub extern "C" fn bt_incidence(table: &[u16], cell: u16, face: u16, sum: &mut i6
             *sum = z;
             0
         }
-        Sum::NoSum(r) => calls::number(r),
+        Sum::NoSum(r) => calls::packed(r),
     }
 }
 
@@ -109,7 +108,7 @@ pub extern "C" fn bt_sheet(table: &[u16], yes: &mut u8) -> u32
             *yes = 0;
             0
         }
-        Judged::NotJudged(r) => calls::number(r),
+        Judged::NotJudged(r) => calls::packed(r),
     }
 }
 
@@ -125,7 +124,7 @@ pub extern "C" fn bt_reduce(table: &[u16], evidence: &mut [u64], additions: &mut
             *additions = counts;
             0
         }
-        Verdict::Refused(r) => calls::number(r),
+        Verdict::Refused(r) => calls::packed(r),
     }
 }
 
@@ -135,9 +134,8 @@ pub extern "C" fn bt_check(
     evidence: &[u64],
     cells: &mut [u16; 7],
     holes: &mut [u16; 7],
-    row: &mut u16,
 ) -> u32
-    ensures { λ r. ⌜ CheckEnds (now (table .entry)) (now (evidence .entry)) (now (cells .entry)) (now (holes .entry)) (now (row .entry)) r (now (cells .exit)) (now (holes .exit)) (now (row .exit)) ⌝ }
+    ensures { λ r. ⌜ CheckEnds (now (table .entry)) (now (evidence .entry)) (now (cells .entry)) (now (holes .entry)) r (now (cells .exit)) (now (holes .exit)) ⌝ }
 {
     let answer = checker::check(table, evidence);
     let verdict = answer.verdict;
@@ -149,7 +147,7 @@ pub extern "C" fn bt_check(
             *holes = found;
             0
         }
-        Verdict::Refused(r) => calls::name_row(r, row),
+        Verdict::Refused(r) => calls::packed(r),
     }
 }
 
@@ -163,7 +161,7 @@ pub extern "C" fn bt_write(table: &[u16], target: &mut [u8], written: &mut usize
             *written = n;
             0
         }
-        Written::NotWritten(r) => calls::number(r),
+        Written::NotWritten(r) => calls::packed(r),
     }
 }
 

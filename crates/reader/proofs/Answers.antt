@@ -11,10 +11,11 @@ use lib.Dec.{eqb, leb}
 use Rattle.counting.specs.Counting.{pick}
 use Rattle.table.specs.Kind.{capacity, width, freeMark}
 use Rattle.table.specs.Table.{cellsOf, sized, onLength}
-use Rattle.audit.specs.Audit.{sound, onValidity, auditGrounds}
+use Rattle.audit.specs.Audit.{firstBreach, breachIn, sound, onValidity, auditGrounds}
 use Rattle.calls.specs.Calls.{Ground, verdict, onVerdict, Ends}
 use Rattle.calls.specs.Numbers.{numberOf}
 use Rattle.calls.specs.declared.Refusal.{Refusal}
+use Rattle.calls.specs.declared.Breach.{Breach}
 use Rattle.calls.specs.declared.Refusal.the-variants.{Length, Invalid, BadContents, BadNumber}
 use Rattle.calls.specs.declared.Verdict.{Verdict}
 use Rattle.calls.specs.declared.Verdict.the-variants.{Accepted, Refused}
@@ -57,14 +58,16 @@ unfolding emptied
 empties t s = rw s
 
 -- after the length no ground has the number 1
-abbrev said : Bool → Bool → Bool → Verdict
-said a b c = pick a (Refused BadContents) (pick b (Refused BadNumber) (pick c (Refused Invalid) Accepted))
+abbrev said : Bool → Bool → Bool → Breach → Verdict
+said a b c w = pick a (Refused BadContents) (pick b (Refused BadNumber) (pick c (Refused (Invalid w)) Accepted))
 
-not-kept : (a b c : Bool) (x y z : List ℕ) → onVerdict (said a b c) x (λ r. pick (eqb (numberOf r) 1) y z) ≡ onVerdict (said a b c) x (λ r. z)
-not-kept true b c x y z = refl
-not-kept false true c x y z = refl
-not-kept false false true x y z = refl
-not-kept false false false x y z = refl
+not-kept :
+    (a b c : Bool) (w : Breach) (x y z : List ℕ) →
+    onVerdict (said a b c w) x (λ r. pick (eqb (numberOf r) 1) y z) ≡ onVerdict (said a b c w) x (λ r. z)
+not-kept true b c w x y z = refl
+not-kept false true c w x y z = refl
+not-kept false false true w x y z = refl
+not-kept false false false w x y z = refl
 
 -- where emptying refuses, the length is no table's, so the reader refuses alike and no word changes
 length-refused : (b : Bool) (r : Refusal) → pick (not b) (Refused Length) Accepted ≡ Refused r → (b ≡ false) × (r ≡ Length)
@@ -109,7 +112,7 @@ module _ {t : List ℕ} {n : ℕ} (o : OfCells t n) where
     leaves-is : readLeaves t f ≡ onVerdict (verdict (fileGrounds n f)) (described n f) (λ r. replicate (length t) freeMark)
     leaves-is =
         ap (λ v. onVerdict v (described (cellsOf t) f) (λ r. pick (eqb (numberOf r) 1) t (replicate (length t) freeMark))) answer-is
-        ∙ not-kept (not (contentsFit n f)) (not (numbersFit n f)) (not (sound (described n f))) (described (cellsOf t) f) t (replicate (length t) freeMark)
+        ∙ not-kept (not (contentsFit n f)) (not (numbersFit n f)) (not (sound (described n f))) (breachIn (firstBreach (described n f))) (described (cellsOf t) f) t (replicate (length t) freeMark)
         ∙ ap (λ m. onVerdict (verdict (fileGrounds n f)) (described m f) (λ r. replicate (length t) freeMark)) (sym (o .cells))
 
     -- the ways out after the length

@@ -8,9 +8,6 @@ use native.Mathlib.Omega.{arith}
 use borrow.Author.Tests.{lt-ltb, le-ltb}
 use lib.ListN.{length, take, drop, set, replicate}
 use lib.Seq.{take-suc-set, drop-set-lt, drop-drop}
-use Rattle.calls.specs.Numbers.{numberOf}
-use Rattle.calls.specs.declared.Refusal.{Refusal}
-use Rattle.calls.specs.declared.Refusal.the-variants.{Length, Invalid, NotLive, SameCell, DimensionsDiffer, FacesDiffer, NotClosed, TopMarked, NoRoom, TooLarge, Misplaced, NoSuchPlace, RuleA, RuleB, BadContents, BadNumber}
 use Rattle.sketch.specs.Form.{pieces}
 use Rattle.table.specs.Kind.{dimensions}
 use Rattle.report.specs.declared.Text.{Text}
@@ -99,24 +96,6 @@ unfolding linesOf
 all-lines n h p x l m g = let e : p ≡ dimensions = omega arith in g .text ∙ ap (pieces (λ q. line q (n q) (h q))) e
 
 -- ---- a refusal
-
-pub number-small : (r : Refusal) → numberOf r ≤ 16
-number-small Length = omega arith
-number-small Invalid = omega arith
-number-small NotLive = omega arith
-number-small SameCell = omega arith
-number-small DimensionsDiffer = omega arith
-number-small FacesDiffer = omega arith
-number-small NotClosed = omega arith
-number-small TopMarked = omega arith
-number-small NoRoom = omega arith
-number-small TooLarge = omega arith
-number-small Misplaced = omega arith
-number-small NoSuchPlace = omega arith
-number-small (RuleA c) = omega arith
-number-small (RuleB c) = omega arith
-number-small BadContents = omega arith
-number-small BadNumber = omega arith
 
 pub refused-text : {x y r : Text} (n m : ℕ) → n ≡ m → textOf x ≡ refusedWord → Grown x (decimal n) longestNumber y → Grown y (newline ∷ []) 1 r → textOf r ≡ refusedLine m
 unfolding refusedLine

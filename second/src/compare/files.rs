@@ -91,7 +91,7 @@ fn bodies(random: &mut Random, room: usize, file: &mut [u8]) {
 }
 
 /// The records of a table that may be damaged, as far as a file can describe them.
-fn records(words: &[u16]) -> Vec<u8> {
+pub fn records(words: &[u16]) -> Vec<u8> {
     let mut cells = vec![];
     for record in words.chunks(RECORD) {
         let dimension = record[0] as usize;

@@ -2,7 +2,10 @@
 //! every buffer.
 
 pub mod calls;
+pub mod damages;
 pub mod files;
+pub mod follow;
 pub mod runs;
 pub mod shrink;
 pub mod tables;
+pub mod tally;

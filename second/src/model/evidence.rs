@@ -33,7 +33,11 @@ fn row_words(words: &[u16], evidence: &[u64]) -> Answer<usize> {
 
 /// 02 "A ceiling for the reducer's additions": r·(2n − r − 1)/2, for n live cells of which r have rows with a non-empty boundary.
 pub fn ceiling(n: u64, r: u64) -> u64 {
-    if r == 0 { 0 } else { r * (2 * n - r - 1) / 2 }
+    if r == 0 {
+        0
+    } else {
+        r * (2 * n - r - 1) / 2
+    }
 }
 
 /// 01 "The reducer": answers the additions made in each dimension. Refused: 1, 2. Every reduction is held to its ceiling.
@@ -76,13 +80,13 @@ pub fn check(words: &[u16], evidence: &[u64]) -> Answer<Count> {
         let number = number as u16;
         let row = set_of_bits(bits);
         if !rule_a(&table, number, &row) {
-            return Err(Refusal { number: 13, row: Some(number) });
+            return Err(Refusal { number: 13, row: Some(number), breach: None });
         }
         let Some(cell) = table.cell(number) else { continue };
         // Rule B: "the same largest cell as the boundary of a lower row".
         if let Some(largest) = boundary_of_row(&table, &row).last() {
             if !largest_seen.insert(*largest) {
-                return Err(Refusal { number: 14, row: Some(number) });
+                return Err(Refusal { number: 14, row: Some(number), breach: None });
             }
             ranks[cell.dimension] += 1;
         }

@@ -1,5 +1,6 @@
 //! The table of 01, decoded: a list of records, each free or a cell with its list of faces.
 
+use super::breach::{first, Breach};
 use std::collections::BTreeSet;
 
 /// The free mark, and the content of an unused face word.
@@ -13,17 +14,18 @@ pub const MOST: usize = 512;
 /// Words in a record: the dimension and seven faces.
 pub const RECORD: usize = 8;
 
-/// A refusal: its number, and for 13 and 14 the row at fault.
+/// A refusal: its number, for 13 and 14 the row at fault, for 2 the first breach.
 #[derive(Clone, Copy, Debug, PartialEq, Eq)]
 pub struct Refusal {
     pub number: u32,
     pub row: Option<u16>,
+    pub breach: Option<Breach>,
 }
 
 pub type Answer<T> = Result<T, Refusal>;
 
 pub fn refuse<T>(number: u32) -> Answer<T> {
-    Err(Refusal { number, row: None })
+    Err(Refusal { number, row: None, breach: None })
 }
 
 /// Refuses with the number where the condition does not hold.
@@ -91,9 +93,14 @@ pub fn bits_of_set(set: &BTreeSet<u16>, words: &mut [u64]) {
 }
 
 impl Table {
-    /// "A table is valid when": the records, then the faces, then the commutation law. Refusal 2, whichever is broken.
-    /// The length must be right.
+    /// The table of the words, where they are valid; else refusal 2 with their first breach. The length must be right.
     pub fn decode(words: &[u16]) -> Answer<Table> {
+        let broken = || Refusal { number: 2, row: None, breach: first(words) };
+        Table::valid(words).ok_or_else(broken)
+    }
+
+    /// "A table is valid when": the records, then the faces, then the commutation law.
+    fn valid(words: &[u16]) -> Option<Table> {
         let mut cells = Vec::new();
         for record in words.chunks(RECORD) {
             cells.push(decode_record(record)?);
@@ -101,8 +108,7 @@ impl Table {
         let table = Table { cells };
         for (_, cell) in table.live() {
             for face in &cell.faces {
-                let found = table.cell(*face);
-                require(found.is_some_and(|f| f.dimension + 1 == cell.dimension), 2)?;
+                table.cell(*face).filter(|f| f.dimension + 1 == cell.dimension)?;
             }
         }
         for (_, cell) in table.live().filter(|(_, cell)| cell.dimension >= 2) {
@@ -110,11 +116,11 @@ impl Table {
                 for l in 0..j {
                     let left = table.face(cell.faces[j], l);
                     let right = table.face(cell.faces[l], j - 1);
-                    require(left == right, 2)?;
+                    (left == right).then_some(())?;
                 }
             }
         }
-        Ok(table)
+        Some(table)
     }
 
     /// The words of the table: dimension, faces, and 65535 in all that is unused.
@@ -168,14 +174,13 @@ impl Table {
     }
 }
 
-/// "Every record is free or has p from 0 to 6 ... unused words are 65535."
-fn decode_record(record: &[u16]) -> Answer<Option<Cell>> {
+/// "Every record is free or has p from 0 to 6 ... unused words are 65535": `None` for another.
+fn decode_record(record: &[u16]) -> Option<Option<Cell>> {
     if record.iter().all(|word| *word == FREE) {
-        return Ok(None);
+        return Some(None);
     }
-    let dimension = record[0] as usize;
-    require(dimension <= TOP, 2)?;
+    let dimension = Some(record[0] as usize).filter(|dimension| *dimension <= TOP)?;
     let (faces, unused) = record[1..].split_at(face_count(dimension));
-    require(unused.iter().all(|word| *word == FREE), 2)?;
-    Ok(Some(Cell { dimension, faces: faces.to_vec() }))
+    let whole = unused.iter().all(|word| *word == FREE);
+    whole.then(|| Some(Cell { dimension, faces: faces.to_vec() }))
 }

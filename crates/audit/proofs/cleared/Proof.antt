@@ -5,7 +5,7 @@ use Prim.Native.Nat.{_-_, _≤_}
 use borrow.Author.Needs.{needs}
 use borrow.Author.Tests.{not-false}
 use Rattle.audit.specs.Audit.{scan, cellBreach}
-use Rattle.audit.specs.declared.Breach.the-variants.{Sound}
+use Rattle.audit.specs.declared.Found.the-variants.{Sound}
 use Rattle.audit.proofs.Scans.{scan-zero, scan-more}
 use Rattle.audit.proofs.cleared.Statement.{statement}
 use Rattle.audit.proofs.cleared.Tie as tie

@@ -8,7 +8,7 @@ use native.Mathlib.Omega.{arith}
 use borrow.Author.Needs.{needs}
 use borrow.Author.Tests.{not-true, not-false}
 use Rattle.audit.specs.Audit.{scan, faceBreach, lawBreach, cellBreach}
-use Rattle.audit.specs.declared.Breach.the-variants.{Sound}
+use Rattle.audit.specs.declared.Found.the-variants.{Sound}
 use Rattle.audit.proofs.Scans.{scan-zero, scan-fewer}
 use Rattle.audit.proofs.Places.{law-places-fit}
 use Rattle.audit.proofs.Valid.{lawScan}

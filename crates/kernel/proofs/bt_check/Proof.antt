@@ -13,16 +13,16 @@ enum-told c = search needs
 enum-known-verdict : tie.Need-enum-known-verdict
 enum-known-verdict c = search needs
 
-name-row-requires : tie.Need-name-row-requires
-name-row-requires c κs = search needs
+packed-requires : tie.Need-packed-requires
+packed-requires c κs = search needs
 
 returns : tie.Need-returns
-returns c = check-accepted _ _ _ (c .before .before .before .before .check .ensures) _ _ _ (c .before .before .enum-told .given .1)
+returns c = check-accepted _ _ _ (c .before .before .before .before .check .ensures) _ _ (c .before .before .enum-told .given .1)
 
 returns-2 : tie.Need-returns-2
-returns-2 c = check-refused _ _ _ (c .before .before .before .before .before .check .ensures) _ _ _ _ _ _ (c .before .before .before .verdict .given .1) (c .name-row .ensures)
+returns-2 c = check-refused _ _ _ (c .before .before .before .before .check .ensures) _ _ _ _ (c .before .before .verdict .given .1) (c .packed .ensures)
 
 pub bt-check-spec : {M : Type 1} → statement M
 bt-check-spec =
     tie.close
-    (tie.spec check-requires enum-told enum-known-verdict name-row-requires returns returns-2)
+    (tie.spec check-requires enum-told enum-known-verdict packed-requires returns returns-2)

@@ -15,15 +15,15 @@ enum-known-answer c = search needs
 enum-known-answer-2 : tie.Need-enum-known-answer-2
 enum-known-answer-2 c = search needs
 
-number-requires : tie.Need-number-requires
-number-requires c κs = search needs
+packed-requires : tie.Need-packed-requires
+packed-requires c κs = search needs
 
 returns : tie.Need-returns
 returns c = told sumCode sumValue _ _ _ _ _ (sym (c .before .before .before .incidence .ensures) ∙ c .before .answer .given .1) refl (search needs)
 
 returns-2 : tie.Need-returns-2
 returns-2 c = told sumCode sumValue _ _ _ _ _ (sym (c .before .before .before .before .incidence .ensures) ∙ c .before .before .answer2 .given .1)
-    (c .number .ensures) refl
+    (c .packed .ensures) refl
 
 pub bt-incidence-spec : {M : Type 1} → statement M
 bt-incidence-spec =
@@ -32,6 +32,6 @@ bt-incidence-spec =
     incidence-requires
     enum-known-answer
     enum-known-answer-2
-    number-requires
+    packed-requires
     returns
     returns-2)

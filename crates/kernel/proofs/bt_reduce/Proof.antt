@@ -13,8 +13,8 @@ enum-told c = search needs
 enum-known-verdict : tie.Need-enum-known-verdict
 enum-known-verdict c = search needs
 
-number-requires : tie.Need-number-requires
-number-requires c κs = search needs
+packed-requires : tie.Need-packed-requires
+packed-requires c κs = search needs
 
 same-length : tie.Need-same-length
 same-length c = search needs
@@ -26,7 +26,7 @@ same-length-2 : tie.Need-same-length-2
 same-length-2 c = search needs
 
 returns-2 : tie.Need-returns-2
-returns-2 c = reduce-refused _ _ _ _ (c .before .before .before .before .before .before .reduce .ensures) _ _ _ (c .before .before .verdict .given .1) (c .number .ensures)
+returns-2 c = reduce-refused _ _ _ _ (c .before .before .before .before .before .before .reduce .ensures) _ _ _ (c .before .before .verdict .given .1) (c .packed .ensures)
 
 pub bt-reduce-spec : {M : Type 1} → statement M
 bt-reduce-spec =
@@ -35,7 +35,7 @@ bt-reduce-spec =
     reduce-requires
     enum-told
     enum-known-verdict
-    number-requires
+    packed-requires
     same-length
     returns
     same-length-2

@@ -18,8 +18,8 @@ enum-told-2 c = search needs
 enum-known-answer : tie.Need-enum-known-answer
 enum-known-answer c = search needs
 
-number-requires : tie.Need-number-requires
-number-requires c κs = search needs
+packed-requires : tie.Need-packed-requires
+packed-requires c κs = search needs
 
 returns : tie.Need-returns
 returns c = told judgedCode judgedValue _ _ _ _ _ (sym (c .before .before .sheet .ensures) ∙ c .enum-told .given .1) refl refl
@@ -29,7 +29,7 @@ returns-2 c = told judgedCode judgedValue _ _ _ _ _ (sym (c .before .before .she
 
 returns-3 : tie.Need-returns-3
 returns-3 c = told judgedCode judgedValue _ _ _ _ _ (sym (c .before .before .before .before .sheet .ensures) ∙ c .before .before .answer .given .1)
-    (c .number .ensures) refl
+    (c .packed .ensures) refl
 
 pub bt-sheet-spec : {M : Type 1} → statement M
 bt-sheet-spec =
@@ -39,7 +39,7 @@ bt-sheet-spec =
     enum-told
     enum-told-2
     enum-known-answer
-    number-requires
+    packed-requires
     returns
     returns-2
     returns-3)

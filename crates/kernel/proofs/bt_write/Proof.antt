@@ -14,8 +14,8 @@ enum-known-answer c = search needs
 enum-known-answer-2 : tie.Need-enum-known-answer-2
 enum-known-answer-2 c = search needs
 
-number-requires : tie.Need-number-requires
-number-requires c κs = search needs
+packed-requires : tie.Need-packed-requires
+packed-requires c κs = search needs
 
 same-length : tie.Need-same-length
 same-length c = search needs
@@ -27,7 +27,7 @@ same-length-2 : tie.Need-same-length-2
 same-length-2 c = search needs
 
 returns-2 : tie.Need-returns-2
-returns-2 c = filled-by _ (c .before .before .before .before .before .before .write .ensures) (c .before .before .answer2 .given .1) (c .number .ensures) refl
+returns-2 c = filled-by _ (c .before .before .before .before .before .before .write .ensures) (c .before .before .answer2 .given .1) (c .packed .ensures) refl
 
 pub bt-write-spec : {M : Type 1} → statement M
 bt-write-spec =
@@ -36,7 +36,7 @@ bt-write-spec =
     write-requires
     enum-known-answer
     enum-known-answer-2
-    number-requires
+    packed-requires
     same-length
     returns
     same-length-2

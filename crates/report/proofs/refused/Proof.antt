@@ -2,7 +2,8 @@
 use mathlib.Core.Path.{refl}
 use native.Mathlib.Omega.{arith}
 use Rattle.calls.specs.Numbers.{numberOf}
-use Rattle.report.proofs.Growing.{number-small, refused-text}
+use Rattle.calls.proofs.Numbers.{number-small}
+use Rattle.report.proofs.Growing.{refused-text}
 use borrow.Author.Needs.{needs}
 use Rattle.report.proofs.refused.Statement.{statement}
 use Rattle.report.proofs.refused.Tie as tie

@@ -1,98 +1,8 @@
-//! Cases 1 to 15 of 01 "Measured pieces", and its "Shortcuts that look right", against the model and, when it is linked, the library.
+//! Cases 1 to 15 of 01 "Measured pieces", its "Shortcuts that look right", and 02 "Sheet test counts places".
 
-use crate::call::{Call, Case, Outcome, Run};
-use crate::model::table::{mark_words, Cell, Table, DIMENSIONS, FREE, RECORD};
-use std::fmt::Debug;
-
-type Verdict = Result<(), String>;
-
-/// Drives the calls of a case and keeps its table.
-struct Bench {
-    run: Run,
-    table: Vec<u16>,
-}
-
-/// A table from its cells, each a number and its faces.
-pub fn table(room: usize, cells: &[(u16, &[u16])]) -> Vec<u16> {
-    let mut table = Table { cells: vec![None; room] };
-    for (number, faces) in cells {
-        let dimension = faces.len().saturating_sub(1);
-        table.cells[*number as usize] = Some(Cell { dimension, faces: faces.to_vec() });
-    }
-    table.encode()
-}
-
-fn same<T: PartialEq + Debug>(what: &str, found: T, wanted: T) -> Verdict {
-    if found == wanted {
-        Ok(())
-    } else {
-        Err(format!("{what}: {found:?} in place of {wanted:?}"))
-    }
-}
-
-impl Bench {
-    fn on(run: Run, room: usize, cells: &[(u16, &[u16])]) -> Bench {
-        Bench { run, table: table(room, cells) }
-    }
-
-    fn room(&self) -> usize {
-        self.table.len() / RECORD
-    }
-
-    fn call(&mut self, call: Call) -> Outcome {
-        let outcome = (self.run)(&Case { table: self.table.clone(), call });
-        self.table = outcome.after.table.clone();
-        outcome
-    }
-
-    fn number(&mut self, call: Call, wanted: u32) -> Verdict {
-        let what = format!("answer of {call:?}");
-        same(&what, self.call(call).number, wanted)
-    }
-
-    fn value(&mut self, call: Call, wanted: i64) -> Verdict {
-        let what = format!("{call:?}");
-        let outcome = self.call(call);
-        same(&what, (outcome.number, outcome.values[0]), (0, wanted))
-    }
-
-    fn cells(&self, wanted: &[(u16, &[u16])]) -> Verdict {
-        same("table", self.table.clone(), table(self.room(), wanted))
-    }
-
-    fn marks(&self, numbers: &[u16]) -> Call {
-        let mut marks = vec![0; mark_words(self.room())];
-        for number in numbers {
-            marks[*number as usize / 64] |= 1 << (number % 64);
-        }
-        Call::Cone { marks }
-    }
-
-    fn rows(&self, rows: &[&[u16]]) -> Call {
-        let width = mark_words(self.room());
-        let mut evidence = vec![0; self.room() * width];
-        for (place, row) in rows.iter().enumerate() {
-            for number in *row {
-                evidence[place * width + *number as usize / 64] |= 1 << (number % 64);
-            }
-        }
-        Call::Check { evidence }
-    }
-
-    /// Reducer and checker: the hole numbers, of which those past the list are 0; answers the additions.
-    fn holes(&mut self, wanted: &[i64]) -> Result<Vec<i64>, String> {
-        let evidence = vec![7; self.room() * mark_words(self.room())];
-        let reduced = self.call(Call::Reduce { evidence });
-        same("answer of the reducer", reduced.number, 0)?;
-        let Call::Reduce { evidence } = reduced.after.call else { unreachable!() };
-        let checked = self.call(Call::Check { evidence });
-        same("answer of the checker", checked.number, 0)?;
-        let mut seven = wanted.to_vec();
-        seven.resize(DIMENSIONS, 0);
-        same("hole numbers", checked.values[DIMENSIONS..2 * DIMENSIONS].to_vec(), seven)?;
-        Ok(reduced.values)
-    }
-}
+use super::{same, Bench, Titled, Verdict};
+use crate::call::{Call, Run};
+use crate::model::table::{FREE, RECORD};
 
 const LOOP: &[(u16, &[u16])] = &[(0, &[]), (1, &[0, 0])];
 const SEGMENT: &[(u16, &[u16])] = &[(0, &[]), (1, &[]), (2, &[1, 0])];
@@ -108,9 +18,9 @@ pub const PROJECTIVE_PLANE: &[(u16, &[u16])] =
 
 fn case_1(run: Run) -> Verdict {
     let mut bench = Bench { run, table: vec![3; RECORD] };
-    bench.number(Call::Empty, 0)?;
+    bench.word(Call::Empty, 0)?;
     same("table", bench.table.clone(), vec![FREE; RECORD])?;
-    bench.number(Call::Audit, 0)?;
+    bench.word(Call::Audit, 0)?;
     bench.holes(&[]).map(|_| ())
 }
 
@@ -143,7 +53,7 @@ fn case_5(run: Run) -> Verdict {
 }
 
 fn case_6(run: Run) -> Verdict {
-    Bench::on(run, 8, SWAPPED).number(Call::Merge { a: 2, b: 3 }, 6)
+    Bench::on(run, 8, SWAPPED).word(Call::Merge { a: 2, b: 3 }, 6)
 }
 
 fn case_7(run: Run) -> Verdict {
@@ -172,24 +82,24 @@ fn case_10(run: Run) -> Verdict {
 fn case_11(run: Run) -> Verdict {
     let mut bench = Bench::on(run, 4, LOOP);
     let both = bench.marks(&[0, 1]);
-    bench.number(both, 9)
+    bench.word(both, 9)
 }
 
 fn case_12(run: Run) -> Verdict {
     let mut bench = Bench::on(run, 8, LOOP);
     let edge = bench.marks(&[1]);
-    bench.number(edge, 7)
+    bench.word(edge, 7)
 }
 
 fn case_13(run: Run) -> Verdict {
     let mut bench = Bench::on(run, 8, SEGMENT);
     let chain = |c: i64| vec![0, 0, c, 0, 0, 0, 0, 0];
     let call = |c: i64| Call::Boundary { chain: chain(c), dimension: 1, result: vec![5; 8] };
-    bench.number(call(i64::MIN), 10)?;
-    bench.number(call(-(1 << 40) - 1), 10)?;
+    bench.word(call(i64::MIN), 10)?;
+    bench.word(call(-(1 << 40) - 1), 10)?;
     let outcome = bench.call(call(-(1 << 40)));
     let result = vec![1 << 40, -(1 << 40), 0, 0, 0, 0, 0, 0];
-    same("answer", outcome.number, 0)?;
+    same("answer", outcome.word, 0)?;
     same("buffers", outcome.after.call, Call::Boundary { chain: chain(-(1 << 40)), dimension: 1, result })
 }
 
@@ -203,7 +113,7 @@ fn case_14(run: Run) -> Verdict {
     }
     bench.holes(&[1])?;
     let six = bench.marks(&(0..127).collect::<Vec<u16>>());
-    bench.number(six, 8)?;
+    bench.word(six, 8)?;
     let five = bench.marks(&(0..63).collect::<Vec<u16>>());
     bench.value(five, 127)?;
     bench.holes(&[1]).map(|_| ())
@@ -235,7 +145,7 @@ fn incidence_ends(run: Run) -> Verdict {
 
 fn sets_of_faces(run: Run) -> Verdict {
     case_6(run)?;
-    Bench::on(run, 8, TORUS).number(Call::Merge { a: 4, b: 5 }, 6)
+    Bench::on(run, 8, TORUS).word(Call::Merge { a: 4, b: 5 }, 6)
 }
 
 /// "Counting a repeated face once when taking a boundary (case 2)."
@@ -261,11 +171,9 @@ fn own_cell(run: Run) -> Verdict {
     let path: &[(u16, &[u16])] = &[(0, &[]), (1, &[]), (2, &[]), (3, &[1, 0]), (4, &[2, 0]), (5, &[2, 0])];
     let mut bench = Bench::on(run, 8, path);
     let shifted = bench.rows(&[&[0], &[1], &[2], &[], &[3], &[4]]);
-    let outcome = bench.call(shifted);
-    same("answer and row", (outcome.number, outcome.values[14]), (13, 3))?;
+    bench.word(shifted, 13 | 3 << 16)?;
     let later = bench.rows(&[&[0], &[1], &[2], &[3], &[4], &[]]);
-    let outcome = bench.call(later);
-    same("answer and row", (outcome.number, outcome.values[14]), (13, 5))
+    bench.word(later, 13 | 5 << 16)
 }
 
 /// 02 "Sheet test counts places": the folded strip and the figure eight are no sheets, the loop and the torus are.
@@ -276,10 +184,7 @@ fn sheet_places(run: Run) -> Verdict {
     Bench::on(run, 8, TORUS).value(Call::Sheet, 1)
 }
 
-/// A case with its title.
-type Titled = (&'static str, fn(Run) -> Verdict);
-
-pub const ALL: [Titled; 22] = [
+pub const ALL: &[Titled] = &[
     ("case 1, empty table", case_1),
     ("case 2, loop", case_2),
     ("case 3, segment", case_3),
@@ -303,22 +208,3 @@ pub const ALL: [Titled; 22] = [
     ("shortcut 5, row without its own cell", own_cell),
     ("sheet test, three places on one edge", sheet_places),
 ];
-
-/// Runs all cases with each of the named runs; one line for each case. Answers whether all held.
-pub fn all(runs: &[(&str, Run)]) -> bool {
-    let mut held = true;
-    for (title, case) in ALL {
-        let mut line = title.to_string();
-        for (name, run) in runs {
-            match case(*run) {
-                Ok(()) => line += &format!("; {name} ok"),
-                Err(fault) => {
-                    held = false;
-                    line += &format!("; {name} DIFFERS: {fault}");
-                }
-            }
-        }
-        println!("{line}");
-    }
-    held
-}

@@ -1,0 +1,81 @@
+//! What 01 states of an accepted call, beyond its answer: tried with further calls on what it left.
+
+use super::runs::{shown, Comparison, Difference};
+use crate::call::{Call, Case, Outcome};
+use crate::model::ranks;
+use crate::model::table::DIMENSIONS;
+
+fn hold(case: &Case, holds: bool, what: &str) -> Result<(), Difference> {
+    match holds {
+        true => Ok(()),
+        false => Err(format!("a property does not hold: {what}\n{}", shown(case))),
+    }
+}
+
+impl Comparison {
+    /// One call, then the properties of what it left.
+    pub fn call_and_follow(&mut self, case: &Case) -> Result<Outcome, Difference> {
+        let outcome = self.call(case)?;
+        if outcome.word == 0 {
+            self.follow(case, &outcome)?;
+        }
+        Ok(outcome)
+    }
+
+    fn follow(&mut self, case: &Case, outcome: &Outcome) -> Result<(), Difference> {
+        match &outcome.after.call {
+            Call::Empty | Call::Cone { .. } => self.stays_valid(case, outcome),
+            Call::Merge { a, b } => {
+                self.stays_valid(case, outcome)?;
+                let other = self.call(&Case { table: case.table.clone(), call: Call::Merge { a: *b, b: *a } })?;
+                let same = other.values == outcome.values && other.after.table == outcome.after.table;
+                hold(case, same, "a merge is the same for both orders")
+            }
+            Call::Incidence { .. } => hold(case, (-3..=4).contains(&outcome.values[0]), "incidence lies from -3 to 4"),
+            Call::Boundary { dimension, .. } if *dimension >= 1 => self.boundary_twice(case, outcome),
+            Call::Reduce { evidence } => {
+                let call = Call::Check { evidence: evidence.clone() };
+                let checked = self.call_and_follow(&Case { table: case.table.clone(), call })?;
+                hold(case, checked.word == 0, "the reducer's evidence is accepted")
+            }
+            Call::Check { .. } => {
+                let holes = ranks::holes(&case.table).expect("a valid table");
+                let found = outcome.values[DIMENSIONS..2 * DIMENSIONS].iter();
+                hold(case, found.eq(holes.map(i64::from).iter()), "the hole numbers are those of the ranks")
+            }
+            Call::Write { .. } | Call::Read { .. } => self.there_and_back(case, outcome),
+            _ => Ok(()),
+        }
+    }
+
+    fn stays_valid(&mut self, case: &Case, outcome: &Outcome) -> Result<(), Difference> {
+        let audit = self.call(&Case { table: outcome.after.table.clone(), call: Call::Audit })?;
+        hold(case, audit.word == 0, "what is left is valid")
+    }
+
+    fn boundary_twice(&mut self, case: &Case, outcome: &Outcome) -> Result<(), Difference> {
+        let Call::Boundary { result, dimension, .. } = &outcome.after.call else { unreachable!() };
+        let call = Call::Boundary { chain: result.clone(), dimension: dimension - 1, result: vec![1; result.len()] };
+        let twice = self.call(&Case { table: case.table.clone(), call })?;
+        let Call::Boundary { result, .. } = &twice.after.call else { unreachable!() };
+        let zero = twice.word == 0 && result.iter().all(|c| *c == 0);
+        hold(case, zero || twice.number() == 10, "a boundary's boundary is zero")
+    }
+
+    /// A written file read, or a read file written.
+    fn there_and_back(&mut self, case: &Case, outcome: &Outcome) -> Result<(), Difference> {
+        let table = outcome.after.table.clone();
+        if let Call::Write { target } = &outcome.after.call {
+            let file = target[..outcome.values[0] as usize].to_vec();
+            let again = self.call(&Case { table: vec![77; table.len()], call: Call::Read { file } })?;
+            hold(case, again.word == 0 && again.after.table == table, "written and read is the same table")?;
+        }
+        if let Call::Read { file } = &outcome.after.call {
+            let call = Call::Write { target: vec![0xEE; file.len()] };
+            let again = self.call(&Case { table, call })?;
+            let same = again.word == 0 && again.after.call == Call::Write { target: file.clone() };
+            hold(case, same, "read and written is the same file")?;
+        }
+        Ok(())
+    }
+}
