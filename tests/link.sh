@@ -3,27 +3,11 @@
 # pkg-config. Each example must print examples/c/part.expected to the byte. And from C: buffers that are not there, and the parts of an answer.
 set -eu
 cd "$(dirname "$0")/.."
-missing=()
-for tool in cc:gcc c++:g++ make:make cargo:cargo; do
-    command -v "${tool%:*}" >/dev/null 2>&1 || missing+=("${tool#*:}")
-done
-[ "${#missing[@]}" = 0 ] || { apt-get update && apt-get install -y "${missing[@]}"; } >/dev/null 2>&1
-
-# built FILE COMMAND..: runs the command where the file is not there yet
-built() {
-    local file=$1
-    shift
-    [ -e "$file" ] && return
-    mkdir -p target
-    "$@" >target/link.log 2>&1 && [ -e "$file" ] && return
-    cat target/link.log
-    printf 'link: %s is not there after: %s\n' "$file" "$*"
-    return 1
-}
-
+. tests/needs.bash
+needs link cc c++ make cargo pkg-config
 archive=target/staticlib/libkernel.a
-built "$archive" rt staticlib kernel
-built target/bin/holes rt check holes
+built "$archive" library
+built target/bin/holes program
 
 place=$(mktemp -d)
 trap 'rm -rf "$place"' EXIT
@@ -57,31 +41,23 @@ export CARGO_TARGET_DIR="$PWD/target/rust"
 ( cd rust && BUMBLETURF_LIB="$PWD/../target/staticlib" cargo build --offline --quiet --example part )
 prints 'Rust' target/rust/debug/examples/part
 
-# An install without the program must say so and leave nothing.
-if make --no-print-directory install DESTDIR="$place/none" PROGRAM="$place/holes" >"$place/said" 2>&1 ||
-    ! grep -q 'holes is not built' "$place/said" || [ -e "$place/none" ]; then
-    cat "$place/said"
-    printf 'link: make install without the program does not stop as it should\n'
-    exit 1
-fi
-
+# What tests/make.sh tries with a stand-in for the prover is here tried on the library itself.
 dest=$place/dest prefix=/usr/local/bumbleturf
+make --no-print-directory --old-file=library shared >/dev/null
 make --no-print-directory install DESTDIR="$dest" PREFIX="$prefix" >/dev/null
 cmp "$archive" "$dest$prefix/lib/libbumbleturf.a"
 cmp target/bin/holes "$dest$prefix/bin/holes"
 cmp include/bumbleturf.h "$dest$prefix/include/bumbleturf.h"
-cc "${warnings[@]}" examples/c/part.c -I"$dest$prefix/include" -L"$dest$prefix/lib" -lbumbleturf -o "$place/part-installed"
+cc "${warnings[@]}" examples/c/part.c -I"$dest$prefix/include" "$dest$prefix/lib/libbumbleturf.a" -o "$place/part-installed"
 prints 'installed' "$place/part-installed"
-if command -v pkg-config >/dev/null 2>&1; then
-    # The files lie under DESTDIR and name the prefix; the variable moves them for this test alone.
-    flags=$(PKG_CONFIG_PATH="$dest$prefix/lib/pkgconfig" pkg-config --define-variable=prefix="$dest$prefix" --cflags --libs bumbleturf)
-    # shellcheck disable=SC2086 # several words
-    cc "${warnings[@]}" examples/c/part.c $flags -o "$place/part-pkg"
-    prints 'pkg-config' "$place/part-pkg"
-else
-    printf 'link: pkg-config: not run, there is none on this machine\n'
-fi
-( cd rust && BUMBLETURF_LIB="$dest$prefix/lib" CARGO_TARGET_DIR="$place/rust" cargo build --offline --quiet --example part )
+# The files lie under DESTDIR and name the prefix; the variable moves them for this test alone.
+flags=$(PKG_CONFIG_PATH="$dest$prefix/lib/pkgconfig" pkg-config --define-variable=prefix="$dest$prefix" --cflags --libs bumbleturf)
+# shellcheck disable=SC2086 # several words
+cc "${warnings[@]}" examples/c/part.c $flags -o "$place/part-pkg"
+prints 'pkg-config' "$place/part-pkg"
+# A relative folder is meant from where cargo is started.
+( cd "$dest" && BUMBLETURF_LIB=".$prefix/lib" CARGO_TARGET_DIR="$place/rust" cargo build --offline --quiet --example part \
+    --manifest-path "$OLDPWD/rust/Cargo.toml" )
 prints 'Rust, installed' "$place/rust/debug/examples/part"
 make --no-print-directory uninstall DESTDIR="$dest" PREFIX="$prefix" >/dev/null
 left=$(find "$dest" -type f)

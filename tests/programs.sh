@@ -3,8 +3,10 @@
 # 2,000 random files against the independent second program.
 set -eu
 cd "$(dirname "$0")/.."
+. tests/needs.bash
+needs programs cargo cc ld objcopy make timeout cmp
 holes=target/bin/holes
-[ -x "$holes" ] || { printf 'programs: %s is not built; run rt check holes\n' "$holes"; exit 1; }
+built "$holes" program
 place=$(mktemp -d)
 trap 'rm -rf "$place"' EXIT
 run=0 failed=0
@@ -111,8 +113,7 @@ printf 'programs: %s inputs, %s failed\n' "$run" "$failed"
 # tests/second.sh builds it too, but comes later by name: on a fresh copy it is built here.
 second=target/second/release/second
 if [ ! -x "$second" ] && [ -e second/Cargo.toml ]; then
-    command -v cargo >/dev/null 2>&1 || { apt-get update && apt-get install -y cargo; } >/dev/null 2>&1
-    [ -e target/staticlib/libkernel.a ] || rt staticlib kernel >target/staticlib.log 2>&1 || { cat target/staticlib.log; exit 1; }
+    built target/staticlib/libkernel.a library
     ( export BUMBLETURF_LIB="$PWD/target/staticlib" CARGO_TARGET_DIR="$PWD/target/second"
       cd second && cargo build --release --offline --quiet )
 fi

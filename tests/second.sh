@@ -3,8 +3,9 @@
 # C names; and the example files, which it must write as they are in the repository.
 set -eu
 cd "$(dirname "$0")/.."
-command -v cargo >/dev/null 2>&1 || { apt-get update && apt-get install -y cargo binutils; } >/dev/null 2>&1
-rt staticlib kernel >target/staticlib.log 2>&1 || { cat target/staticlib.log; exit 1; }
+. tests/needs.bash
+needs second cargo cc ld objcopy make
+built target/staticlib/libkernel.a library
 export BUMBLETURF_LIB="$PWD/target/staticlib" CARGO_TARGET_DIR="$PWD/target/second"
 cd second
 cargo test --release --offline --quiet
