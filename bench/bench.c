@@ -11,7 +11,7 @@
 #include <string.h>
 #include <time.h>
 
-enum { ROUNDS = 201, RUNS = 3, SLICE = 100000, COPIES = 128, CALLS = 11 };
+enum { ROUNDS = 201, RUNS = 3, SLICE = 100000, COPIES = 128, CALLS = 12 };
 
 static struct piece pieces[TABLES];
 
@@ -20,7 +20,7 @@ static struct {
     const struct piece *piece;
     size_t words, row, length;
     uint16_t copies[COPIES][64], two[2][PL_RECORD * PL_ROOM], target[PL_RECORD * PL_ROOM];
-    uint16_t cells[PL_DIMENSIONS], holes[PL_DIMENSIONS], cell, face, point;
+    uint16_t cells[PL_DIMENSIONS], holes[PL_DIMENSIONS], cell, face, point, list[PL_ROOM];
     int64_t chain[PL_ROOM], boundary[PL_ROOM], sum;
     uint64_t evidence[PL_ROOM * PL_ROW], made[PL_ROOM * PL_ROW], additions[PL_DIMENSIONS];
     uint8_t file[PL_LONGEST], written[PL_LONGEST], yes;
@@ -59,14 +59,15 @@ READING(check, check(t, words, lent.evidence, n * lent.row, lent.cells, lent.hol
 READING(put, write(t, words, lent.written, PL_LONGEST, &got))
 READING(get, read(lent.target, words, lent.file, lent.length))
 
-/* Cone and merge change the table, so each call of a stretch has a fresh copy; copies are made outside the measured time and are few
+/* Cone, merge and compaction change the table, so each call of a stretch has a fresh copy; copies are made outside the measured time and are few
  * enough to stay in the first cache. */
 #define CHANGING(name, call)                                                         \
     static double name(const struct calls *s, size_t times)                          \
     {                                                                                \
         size_t words = lent.words, few = lent.piece->n == 8 ? COPIES : 2, done = 0;  \
         double sum = 0;                                                              \
-        uint16_t given;                                                              \
+        uint16_t given = 0;                                                          \
+        (void)given;                                                                 \
         while (done < times) {                                                       \
             for (size_t k = 0; k < few; k++)                                         \
                 memcpy(few == 2 ? lent.two[k] : lent.copies[k], lent.piece->words, 2 * words); \
@@ -83,6 +84,7 @@ READING(get, read(lent.target, words, lent.file, lent.length))
 
 CHANGING(cone, cone(t, words, lent.piece->marks, lent.row, &given))
 CHANGING(merge, merge(t, words, lent.piece->a, lent.piece->b, &given))
+CHANGING(compact, compact(t, words, lent.list, lent.piece->n))
 
 static int rising(const void *a, const void *b)
 {
@@ -138,13 +140,13 @@ static void take(const struct piece *t)
 static const struct {
     const char *name;
     measure *measure;
-} list[CALLS] = {{"audit", audit},   {"merge", merge}, {"cone", cone},     {"incidence", incidence}, {"boundary", boundary}, {"corner", corner},
+} list[CALLS] = {{"audit", audit},   {"merge", merge}, {"cone", cone},     {"compact", compact}, {"incidence", incidence}, {"boundary", boundary}, {"corner", corner},
                  {"sheet", sheet},   {"reduce", reduce}, {"check", check}, {"read", get},            {"write", put}};
 
-/* Whether a call is measured on a table: a merge where two cells are named, else on the tables with room for a cone or on the others. */
+/* Whether a call is measured on a table: audit and compaction on all, a merge where two cells are named, else on the tables with room for a cone or on the others. */
 static int asked(measure *m, const struct piece *t)
 {
-    return m == audit || (m == merge ? t->a != t->b : (m == cone) == t->conable);
+    return m == audit || m == compact || (m == merge ? t->a != t->b : (m == cone) == t->conable);
 }
 
 static int wanted(const char *name, int count, char **names)

@@ -10,9 +10,9 @@
 #include <stdlib.h>
 #include <string.h>
 
-enum { STACK = 1 << 20, CALLS = 9 };
+enum { STACK = 1 << 20, CALLS = 10 };
 
-static const char *const names[CALLS] = {"audit", "merge", "cone", "boundary", "sheet", "reduce", "check", "read", "write"};
+static const char *const names[CALLS] = {"audit", "merge", "cone", "boundary", "sheet", "reduce", "check", "read", "write", "compact"};
 static const size_t rooms[3] = {8, 64, PL_ROOM};
 
 static struct piece pieces[TABLES];
@@ -22,7 +22,7 @@ static struct {
     const struct calls *side;
     int call;
     size_t n, row, length, deep;
-    uint16_t words[PL_RECORD * PL_ROOM], a, b, dimension, number, cells[PL_DIMENSIONS], holes[PL_DIMENSIONS];
+    uint16_t words[PL_RECORD * PL_ROOM], a, b, dimension, number, list[PL_ROOM], cells[PL_DIMENSIONS], holes[PL_DIMENSIONS];
     uint64_t marks[PL_ROW], evidence[PL_ROOM * PL_ROW], made[PL_ROOM * PL_ROW], additions[PL_DIMENSIONS];
     int64_t chain[PL_ROOM], boundary[PL_ROOM];
     uint8_t file[PL_LONGEST], written[PL_LONGEST], yes;
@@ -50,6 +50,7 @@ static __attribute__((noinline)) void call(void)
     case 6: work.answer = s->check(t, words, work.evidence, work.n * work.row, work.cells, work.holes); break;
     case 7: work.answer = s->read(t, words, work.file, work.length); break;
     case 8: work.answer = s->write(t, words, work.written, PL_LONGEST, &work.length); break;
+    case 9: work.answer = s->compact(t, words, work.list, work.n); break;
     default: work.answer = 0;
     }
 }

@@ -1,13 +1,13 @@
-/* The measured tables: tori, cones, six-cells, random triangles, cells of dimension 5 and 6, the worst star, small ones. */
+/* The measured tables: tori, cones, six-cells, random triangles, cells of dimension 5 and 6, the worst star, small ones, a torus under drawn numbers. */
 #include "tables.h"
 #include "bumbleturf.h"
 #include "plain.h"
 
 #include <string.h>
 
-const struct calls library = {bt_audit,  bt_cone,   bt_merge, bt_incidence, bt_boundary, bt_corner,
+const struct calls library = {bt_audit,  bt_cone,   bt_merge, bt_compact, bt_incidence, bt_boundary, bt_corner,
                               bt_sheet,  bt_reduce, bt_check, bt_write,     bt_read};
-const struct calls plain = {pl_audit,  pl_cone,   pl_merge, pl_incidence, pl_boundary, pl_corner,
+const struct calls plain = {pl_audit,  pl_cone,   pl_merge, pl_compact, pl_incidence, pl_boundary, pl_corner,
                             pl_sheet,  pl_reduce, pl_check, pl_write,     pl_read};
 
 uint32_t draw(uint64_t *state, uint32_t limit)
@@ -115,6 +115,28 @@ static void drawn(struct piece *t, unsigned p, unsigned low)
     }
 }
 
+/* The same cells under drawn numbers, as after many merges. */
+static void scatter(struct piece *t)
+{
+    uint64_t state = 362436069u;
+    uint16_t number[PL_ROOM], old[PL_RECORD * PL_ROOM];
+    for (size_t c = 0; c < t->n; c++)
+        number[c] = (uint16_t)c;
+    for (size_t c = t->n; c > 1; c--) {
+        size_t k = draw(&state, (uint32_t)c);
+        uint16_t kept = number[k];
+        number[k] = number[c - 1];
+        number[c - 1] = kept;
+    }
+    memcpy(old, t->words, sizeof old);
+    for (size_t c = 0; c < t->n; c++) {
+        uint16_t *r = t->words + PL_RECORD * number[c];
+        memcpy(r, old + PL_RECORD * c, PL_RECORD * sizeof *r);
+        for (unsigned j = 0; r[0] && r[0] != PL_FREE && j <= r[0]; j++)
+            r[1 + j] = number[r[1 + j]];
+    }
+}
+
 void fill_tables(struct piece pieces[TABLES])
 {
     struct piece *t = begin(&pieces[0], "torus, 510 cells", PL_ROOM, 2);
@@ -165,4 +187,8 @@ void fill_tables(struct piece pieces[TABLES])
     cell(t, 1, 1, (unsigned[]){0, 0});
     marking(t, 2);
     t->conable = 1;
+
+    t = begin(&pieces[10], "scattered torus", PL_ROOM, 2);
+    torus(t, 17, 4);
+    scatter(t);
 }

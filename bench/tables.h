@@ -11,7 +11,7 @@
 extern "C" {
 #endif
 
-enum { TABLES = 10 };
+enum { TABLES = 11 };
 
 /* A table of n records, and what the calls on it are asked: the chain's dimension, the two cells to merge (equal ones name no
  * merge) and the marks for a cone (conable says whether there is room for it). */
@@ -34,6 +34,7 @@ struct calls {
     uint32_t (*audit)(const uint16_t *, size_t);
     uint32_t (*cone)(uint16_t *, size_t, const uint64_t *, size_t, uint16_t *);
     uint32_t (*merge)(uint16_t *, size_t, uint16_t, uint16_t, uint16_t *);
+    uint32_t (*compact)(uint16_t *, size_t, uint16_t *, size_t);
     uint32_t (*incidence)(const uint16_t *, size_t, uint16_t, uint16_t, int64_t *);
     uint32_t (*boundary)(const uint16_t *, size_t, const int64_t *, size_t, uint16_t, int64_t *, size_t);
     uint32_t (*corner)(const uint16_t *, size_t, uint16_t, uint16_t, uint16_t *);
@@ -49,7 +50,7 @@ extern const struct calls library, plain;
 /* Everything that a call may leave: answer, values, lent buffers. Filled with a fixed byte before the call. */
 struct outcome {
     uint32_t answer;
-    uint16_t words[PL_RECORD * PL_ROOM], kept, apex, corner, cells[PL_DIMENSIONS], holes[PL_DIMENSIONS];
+    uint16_t words[PL_RECORD * PL_ROOM], kept, apex, corner, list[PL_ROOM], cells[PL_DIMENSIONS], holes[PL_DIMENSIONS];
     int64_t boundary[PL_ROOM], incidence;
     uint64_t evidence[PL_ROOM * PL_ROW], additions[PL_DIMENSIONS];
     uint8_t yes, file[PL_LONGEST + 8];

@@ -68,6 +68,10 @@ uint32_t bt_cone(uint16_t *table, size_t words, const uint64_t *marks, size_t ma
 /* Joins two different live cells of one dimension with equal face lists; the smaller number is kept. Refused: 1 to 6. */
 uint32_t bt_merge(uint16_t *table, size_t words, uint16_t a, uint16_t b, uint16_t *kept);
 
+/* Renumbers the live cells 0, 1, 2, .. by dimension, then by old number, and moves the free records to the end; list, N words, gets each
+ * old number's new one, 65535 for a free number. Evidence made before is for the old numbers. Refused: 1, 2. */
+uint32_t bt_compact(uint16_t *table, size_t words, uint16_t *list, size_t list_len);
+
 /* The sum of (-1)^j over the places j at which face j of cell is face; from -3 to 4. Refused: 1, 2, 3, 5. */
 uint32_t bt_incidence(const uint16_t *table, size_t words, uint16_t cell, uint16_t face, int64_t *sum);
 

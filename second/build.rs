@@ -9,7 +9,7 @@ use std::path::Path;
 use std::process::Command;
 
 /// The names of the C header.
-const NAMES: [&str; 12] = [
+const NAMES: [&str; 13] = [
     "bt_empty",
     "bt_audit",
     "bt_cone",
@@ -22,6 +22,7 @@ const NAMES: [&str; 12] = [
     "bt_check",
     "bt_write",
     "bt_read",
+    "bt_compact",
 ];
 
 /// Joins the library to one object with no other visible names; answers whether that was done.

@@ -17,12 +17,12 @@ static void refused(const char *call, uint32_t got, uint32_t expected)
     wrong++;
 }
 
-/* No table at all: refusal 1 from each of the twelve. */
+/* No table at all: refusal 1 from each call. */
 static void no_table(void)
 {
     uint64_t words[CELLS] = {0}, additions[DIMENSIONS];
     int64_t chain[CELLS] = {0}, boundary[CELLS], sum;
-    uint16_t cells[DIMENSIONS], holes[DIMENSIONS], number;
+    uint16_t cells[DIMENSIONS], holes[DIMENSIONS], list[CELLS], number;
     uint8_t bytes[1] = {0}, yes;
     size_t written;
     refused("empty without a table", bt_empty(NULL, 0), LENGTH);
@@ -30,6 +30,8 @@ static void no_table(void)
     refused("cone without a table", bt_cone(NULL, 0, words, 1, &number), LENGTH);
     refused("cone without anything", bt_cone(NULL, 0, NULL, 0, &number), LENGTH);
     refused("merge without a table", bt_merge(NULL, 0, 0, 1, &number), LENGTH);
+    refused("compact without a table", bt_compact(NULL, 0, list, CELLS), LENGTH);
+    refused("compact without anything", bt_compact(NULL, 0, NULL, 0), LENGTH);
     refused("incidence without a table", bt_incidence(NULL, 0, 0, 1, &sum), LENGTH);
     refused("boundary without a table", bt_boundary(NULL, 0, chain, CELLS, 0, boundary, CELLS), LENGTH);
     refused("boundary without anything", bt_boundary(NULL, 0, NULL, 0, 0, NULL, 0), LENGTH);
@@ -55,6 +57,7 @@ static void no_other_buffer(void)
     refused("empty", bt_empty(table, WORDS), 0);
     refused("cone over nothing", bt_cone(table, WORDS, marks, 1, &number), 0);
     refused("cone without marks", bt_cone(table, WORDS, NULL, 0, &number), LENGTH);
+    refused("compact without a list", bt_compact(table, WORDS, NULL, 0), LENGTH);
     refused("boundary without a chain", bt_boundary(table, WORDS, NULL, 0, 0, chain, CELLS), LENGTH);
     refused("boundary without a result", bt_boundary(table, WORDS, chain, CELLS, 0, NULL, 0), LENGTH);
     refused("reduce without evidence", bt_reduce(table, WORDS, NULL, 0, additions), LENGTH);

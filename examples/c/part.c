@@ -42,7 +42,7 @@ static void tell(uint32_t answer)
 
 static uint32_t run(void)
 {
-    uint16_t a, b, apex;
+    uint16_t a, b, apex, list[N];
     uint32_t refused;
     if ((refused = bt_empty(table, 8 * N))) return refused;
     if ((refused = cone(0, &a))) return refused;                            /* point 0 */
@@ -59,7 +59,9 @@ static uint32_t run(void)
     printf("a third cap: refused %u\n", (unsigned)bt_number(refused));
     refused = bt_merge(table, 8 * N, a, 2, &a);
     printf("point with edge: refused %u\n", (unsigned)bt_number(refused));
-    table[8 * 2 + 1] = 700;                                                 /* face 0 of edge 2 */
+    if ((refused = bt_compact(table, 8 * N, list, N))) return refused;      /* points first, then edges, then triangles */
+    printf("compacted: edge 2 is now %u\n", (unsigned)list[2]);
+    table[8 * list[2] + 1] = 700;                                           /* face 0 of that edge */
     printf("broken by hand: ");
     tell(bt_audit(table, 8 * N));
     return 0;

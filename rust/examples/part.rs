@@ -31,6 +31,10 @@ fn main() -> Result<(), Refusal> {
     if let Err(refusal) = part.merge(a, edge) {
         println!("point with edge: refused {}", refusal.number());
     }
+    let mut list = vec![0; part.room()];
+    part.compact(&mut list)?; // points first, then edges, then triangles
+    println!("compacted: edge {edge} is now {}", list[usize::from(edge)]);
+    let edge = list[usize::from(edge)];
     part.words_mut()[RECORD_WORDS * usize::from(edge) + 1] = 700; // face 0 of the edge
     match part.audit() {
         Err(Refusal::Invalid(Breach::Face { cell, place })) => println!("broken by hand: refused 2, face {place} of cell {cell}"),

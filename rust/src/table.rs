@@ -217,6 +217,13 @@ impl<W: AsRef<[u16]> + AsMut<[u16]>> Table<W> {
         Ok(kept)
     }
 
+    /// Renumbers the live cells 0, 1, 2, .. by dimension, then by old number, and moves the free records to the end. The list, N words,
+    /// gets each old number's new one, [`FREE`] for a free number. Evidence made before is for the old numbers. Refused: 1, 2.
+    pub fn compact(&mut self, list: &mut [u16]) -> Result<(), Refusal> {
+        let t = self.words_mut();
+        Refusal::answer(unsafe { bt_compact(t.as_mut_ptr(), t.len(), list.as_mut_ptr(), list.len()) })
+    }
+
     /// Fills the table from a sketch file; its old contents are not looked at. Refused, in this order: 1, 15, 16, 2; with 1 the table
     /// stays, with any other every word is 65535.
     pub fn read(&mut self, file: &[u8]) -> Result<(), Refusal> {

@@ -49,6 +49,28 @@ fn a_segment_with_merged_ends_is_a_loop() {
 }
 
 #[test]
+fn a_compaction_closes_the_gaps() {
+    // Points 1 and 6, edges 0 (6,1) and 4 (1,1), triangle 3 (0,0,4).
+    let mut table = made(8, &[(1, 0, &[]), (6, 0, &[]), (0, 1, &[6, 1]), (4, 1, &[1, 1]), (3, 2, &[0, 0, 4])]);
+    let (before, count) = (table.clone(), table.count());
+    assert_eq!(table.compact(&mut [0; 7]), Err(Refusal::Length));
+    assert_eq!(table.compact(&mut [0; 9]), Err(Refusal::Length));
+    assert_eq!(table, before);
+    let mut list = [0; 8];
+    assert_eq!(table.compact(&mut list), Ok(()));
+    assert_eq!(list, [2, 0, FREE, 4, 3, FREE, 1, FREE]);
+    assert_eq!(table, made(8, &[(0, 0, &[]), (1, 0, &[]), (2, 1, &[1, 0]), (3, 1, &[0, 0]), (4, 2, &[2, 2, 3])]));
+    assert_eq!(table.count(), count);
+    let compacted = table.clone();
+    assert_eq!(table.compact(&mut list), Ok(()));
+    assert_eq!((table, list), (compacted, [0, 1, 2, 3, 4, FREE, FREE, FREE]));
+    let mut broken = Table::over([0; 8]);
+    let mut untouched = [7];
+    assert_eq!(broken.compact(&mut untouched), Err(Refusal::Invalid(Breach::Record { cell: 0 })));
+    assert_eq!(untouched, [7]);
+}
+
+#[test]
 fn a_torus_has_holes_1_2_1() {
     let table = torus();
     let mut evidence = vec![0; evidence_words(8)];

@@ -2,7 +2,7 @@
 
 use crate::model::breach::Kind;
 use crate::model::table::{Answer, Refusal, DIMENSIONS, FREE, RECORD};
-use crate::model::{building, evidence, reading, sketch};
+use crate::model::{building, compaction, evidence, reading, sketch};
 
 /// What a value pointer refers to before the call. No accepted call answers these values.
 pub const BEFORE_8: u8 = 0x5A;
@@ -24,10 +24,11 @@ pub enum Call {
     Check { evidence: Vec<u64> },
     Write { target: Vec<u8> },
     Read { file: Vec<u8> },
+    Compact { list: Vec<u16> },
 }
 
 /// The names of the calls and the refusals that 01 and 02 give each of them.
-pub const NAMES: [(&str, &[u32]); 12] = [
+pub const NAMES: [(&str, &[u32]); 13] = [
     ("empty", &[1]),
     ("audit", &[1, 2]),
     ("cone", &[1, 2, 3, 7, 8, 9]),
@@ -40,6 +41,7 @@ pub const NAMES: [(&str, &[u32]); 12] = [
     ("check", &[1, 2, 13, 14]),
     ("write", &[1, 2, 9]),
     ("read", &[1, 2, 15, 16]),
+    ("compact", &[1, 2]),
 ];
 
 impl Call {
@@ -58,6 +60,7 @@ impl Call {
             Call::Check { .. } => 9,
             Call::Write { .. } => 10,
             Call::Read { .. } => 11,
+            Call::Compact { .. } => 12,
         }
     }
 }
@@ -157,6 +160,7 @@ pub fn by_model(case: &Case) -> Outcome {
         Call::Check { evidence } => checked(evidence::check(table, evidence)),
         Call::Write { target } => one(sketch::write(table, target).map(|length| length as i64), BEFORE_64),
         Call::Read { file } => plain(sketch::read(table, file)),
+        Call::Compact { list } => plain(compaction::compact(table, list)),
     };
     Outcome { word, values, after, guard: None }
 }

@@ -37,6 +37,7 @@ extern "C" {
     ) -> u32;
     fn bt_write(table: *const u16, words: usize, target: *mut u8, target_len: usize, written: *mut usize) -> u32;
     fn bt_read(table: *mut u16, words: usize, file: *const u8, file_len: usize) -> u32;
+    fn bt_compact(table: *mut u16, words: usize, list: *mut u16, list_len: usize) -> u32;
 }
 
 /// Guard words on each side of a buffer.
@@ -86,6 +87,7 @@ struct Lent {
     chain: Guarded<i64>,
     result: Guarded<i64>,
     bytes: Guarded<u8>,
+    list: Guarded<u16>,
     byte_value: Guarded<u8>,
     short_values: Guarded<u16>,
     holes: Guarded<u16>,
@@ -94,13 +96,14 @@ struct Lent {
 
 impl Lent {
     fn new(case: &Case) -> Lent {
-        let (mut bits, mut chain, mut result, mut bytes) = (&vec![], &vec![], &vec![], &vec![]);
+        let (mut bits, mut chain, mut result, mut bytes, mut list) = (&vec![], &vec![], &vec![], &vec![], &vec![]);
         match &case.call {
             Call::Cone { marks } => bits = marks,
             Call::Boundary { chain: c, result: r, .. } => (chain, result) = (c, r),
             Call::Reduce { evidence } | Call::Check { evidence } => bits = evidence,
             Call::Write { target } => bytes = target,
             Call::Read { file } => bytes = file,
+            Call::Compact { list: l } => list = l,
             _ => {}
         }
         Lent {
@@ -109,6 +112,7 @@ impl Lent {
             chain: Guarded::new(chain, GUARD_64),
             result: Guarded::new(result, GUARD_64),
             bytes: Guarded::new(bytes, GUARD_8),
+            list: Guarded::new(list, GUARD_16),
             byte_value: Guarded::new(&[BEFORE_8], GUARD_8),
             short_values: Guarded::new(&[BEFORE_16; DIMENSIONS], GUARD_16),
             holes: Guarded::new(&[BEFORE_16; DIMENSIONS], GUARD_16),
@@ -141,6 +145,7 @@ impl Lent {
                 Call::Check { .. } => bt_check(table, words, bits, bit_words, short, self.holes.start()),
                 Call::Write { .. } => bt_write(table, words, bytes, length, long.cast()),
                 Call::Read { .. } => bt_read(table, words, bytes, length),
+                Call::Compact { .. } => bt_compact(table, words, self.list.start(), self.list.len()),
             }
         }
     }
@@ -156,6 +161,7 @@ pub fn by_library(case: &Case) -> Outcome {
     let chain = lent.chain.end("chain", note);
     let result = lent.result.end("result", note);
     let bytes = lent.bytes.end("file", note);
+    let list = lent.list.end("list", note);
     let byte: Vec<i64> = widened(lent.byte_value.end("value", note));
     let short: Vec<i64> = widened(lent.short_values.end("value or cell counts", note));
     let holes: Vec<i64> = widened(lent.holes.end("hole numbers", note));
@@ -182,6 +188,7 @@ pub fn by_library(case: &Case) -> Outcome {
         Call::Check { .. } => ([short, holes].concat(), Call::Check { evidence: bits }),
         Call::Write { .. } => (one_long(note), Call::Write { target: bytes }),
         Call::Read { .. } => (vec![], Call::Read { file: bytes }),
+        Call::Compact { .. } => (vec![], Call::Compact { list }),
         call @ (Call::Empty | Call::Audit) => (vec![], call),
     };
     Outcome { word, values, after: Case { table, call }, guard: note.take() }

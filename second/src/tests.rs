@@ -1,5 +1,7 @@
 //! Unit tests of the model: the cases of 01, its file, and small properties on random tables.
 
+mod compaction;
+
 use crate::call::by_model;
 use crate::compare::damages;
 use crate::compare::runs::Comparison;

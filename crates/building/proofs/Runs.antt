@@ -12,13 +12,17 @@ use Rattle.merge.specs.Merge.{IsIdentification, mergeVerdict, merged, mergeLeav
 use Rattle.merge.proofs.Identification.{identification-determines}
 use Rattle.merge.proofs.Answers.{mergeLeaves-valid, merge-accepted-leaves}
 use Rattle.cone.specs.Cone.{apexOf, coneOf, coned, coneVerdict, coneLeaves}
+use Rattle.compaction.specs.Made.{newNumber, compacted}
+use Rattle.compaction.specs.Call.{compactLeaves}
+use Rattle.compaction.proofs.Determines.{one-compaction}
+use Rattle.compaction.proofs.Answers.{accepted-leaves, compactLeaves-valid}
 use Rattle.building.specs.ConeRule.{IsCone}
 use Rattle.building.proofs.ConedIsCone.{accepted-is-cone}
 use Rattle.building.proofs.ConeDetermines.{rule-gives-coned}
 use Rattle.building.proofs.ConeValid.{coneLeaves-valid}
 use Rattle.building.specs.Runs.{Request, Rule, verdictOn, Step, Run, leftBy, calls, Exactly}
-use Rattle.building.specs.Runs.Request.{coneOver, mergeOf}
-use Rattle.building.specs.Runs.Rule.{by-cone, by-identification}
+use Rattle.building.specs.Runs.Request.{coneOver, mergeOf, compaction}
+use Rattle.building.specs.Runs.Rule.{by-cone, by-identification, by-compaction}
 use Rattle.building.specs.Runs.Step.{refused, made}
 use Rattle.building.specs.Runs.Run.{done, more}
 
@@ -28,10 +32,12 @@ use Rattle.building.specs.Runs.Run.{done, more}
 abbrev madeBy : List ℕ → Request → List ℕ
 madeBy t (coneOver marks) = coned t marks
 madeBy t (mergeOf a b) = merged t a b
+madeBy t (compaction list) = compacted t
 
 left-is : (t : List ℕ) (r : Request) → leftBy t r ≡ leaves (verdictOn t r) (madeBy t r) t
 left-is t (coneOver marks) = refl
 left-is t (mergeOf a b) = refl
+left-is t (compaction list) = refl
 
 -- it is what the rule gives,
 made-by-rule : (t : List ℕ) (r : Request) → verdictOn t r ≡ Accepted → Rule t r (leftBy t r)
@@ -39,6 +45,7 @@ made-by-rule t (coneOver marks) e =
     by-cone (apexOf t) (coneOf t marks)
     (subst (λ (u : List ℕ). IsCone t marks (apexOf t) (coneOf t marks) u) (sym (ap (λ (v : Verdict). leaves v (coned t marks) t) e)) (accepted-is-cone t marks e))
 made-by-rule t (mergeOf a b) e = by-identification (merge-accepted-leaves t a b e)
+made-by-rule t (compaction list) e = by-compaction (newNumber t) (accepted-leaves t list e)
 
 -- the rule gives nothing else,
 rule-is-made : {t u : List ℕ} {r : Request} → Valid t → verdictOn t r ≡ Accepted → Rule t r u → u ≡ leftBy t r
@@ -46,11 +53,14 @@ rule-is-made {t} {u} v e (by-cone {marks = marks} apex κ x) =
     rule-gives-coned t marks e apex κ u x .1 ∙ sym (ap (λ (w : Verdict). leaves w (coned t marks) t) e)
 rule-is-made {t} {u} v e (by-identification {a = a} {b = b} x) =
     identification-determines t a b u (mergeLeaves t a b) (v .sized) x (merge-accepted-leaves t a b e)
+rule-is-made {t} {u} v e (by-compaction {list = list} ν x) =
+    one-compaction t ν (newNumber t) u (compactLeaves t list) x (accepted-leaves t list e) (v .sized)
 
 -- and the table stays valid.
 pub call-keeps-valid : (t : List ℕ) (r : Request) → Valid t → Valid (leftBy t r)
 call-keeps-valid t (coneOver marks) v = coneLeaves-valid t marks v
 call-keeps-valid t (mergeOf a b) v = mergeLeaves-valid t a b v
+call-keeps-valid t (compaction list) v = compactLeaves-valid t list v
 
 -- ---- one step, whatever the call
 

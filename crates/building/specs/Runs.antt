@@ -1,5 +1,6 @@
--- Runs of cone and merge requests: any words and numbers whatever, refused ones included. On one side what the published rules give,
--- step by step, through relations that name no algorithm; on the other what the calls leave, by their contracts.
+-- Runs of cone, merge and compaction requests: any words and numbers whatever, refused ones included. On one side what the published
+-- rules give, renumbered where a compaction was called, step by step, through relations that name no algorithm; on the other what the
+-- calls leave, by their contracts.
 -- A reader must believe these definitions; nothing here is proved.
 use mathlib.Core.Path.{_≡_}
 use mathlib.Core.List.{List, [], _∷_}
@@ -9,22 +10,27 @@ use Rattle.calls.specs.declared.Verdict.{Verdict}
 use Rattle.calls.specs.declared.Verdict.the-variants.{Accepted, Refused}
 use Rattle.merge.specs.Merge.{IsIdentification, mergeVerdict, mergeLeaves}
 use Rattle.cone.specs.Cone.{coneVerdict, coneLeaves}
+use Rattle.compaction.specs.Compaction.{IsCompaction}
+use Rattle.compaction.specs.Call.{compactVerdict, compactLeaves}
 use Rattle.building.specs.ConeRule.{IsCone}
 
--- a request: the cone over marks, or the merge of two numbers
+-- a request: the cone over marks, the merge of two numbers, or a compaction with a lent list
 pub data Request : Type 0 where
   coneOver : List ℕ → Request
   mergeOf : ℕ → ℕ → Request
+  compaction : List ℕ → Request
 
 -- What the published rules make of a table by a request that is granted.
 pub data Rule : List ℕ → Request → List ℕ → Type 0 where
   by-cone : {t marks t′ : List ℕ} (apex : ℕ) (cone : ℕ → ℕ) → IsCone t marks apex cone t′ → Rule t (coneOver marks) t′
   by-identification : {t t′ : List ℕ} {a b : ℕ} → IsIdentification t a b t′ → Rule t (mergeOf a b) t′
+  by-compaction : {t t′ list : List ℕ} (ν : ℕ → ℕ) → IsCompaction t ν t′ → Rule t (compaction list) t′
 
 -- what the list of refusals says of a request
 abbrev pub verdictOn : List ℕ → Request → Verdict
 verdictOn t (coneOver marks) = coneVerdict t marks
 verdictOn t (mergeOf a b) = mergeVerdict t a b
+verdictOn t (compaction list) = compactVerdict t list
 
 -- One request: where the list of refusals refuses it nothing changes, else the table is what the rules give.
 pub data Step : List ℕ → Request → List ℕ → Type 0 where
@@ -40,6 +46,7 @@ pub data Run : List ℕ → List Request → List ℕ → Type 0 where
 abbrev pub leftBy : List ℕ → Request → List ℕ
 leftBy t (coneOver marks) = coneLeaves t marks
 leftBy t (mergeOf a b) = mergeLeaves t a b
+leftBy t (compaction list) = compactLeaves t list
 
 -- what the calls leave, one after the other
 unfoldable pub calls : List ℕ → List Request → List ℕ

@@ -12,7 +12,7 @@ use Rattle.homology.proofs.Marks.{clash}
 use Rattle.reading.specs.declared.Sum.{Sum}
 use Rattle.reading.specs.declared.Sum.the-variants.{Is, NoSum}
 use Rattle.cases.specs.Cases.{Answer}
-use Rattle.cases.specs.Cases.Answer.{names, refused}
+use Rattle.cases.specs.Cases.Answer.{names, done, refused}
 
 unfoldable pub sameWords : List ℕ → List ℕ → Bool
 sameWords [] [] = true
@@ -53,13 +53,23 @@ is-sum (NoSum r) z e = clash e refl
 
 unfoldable pub sameAnswer : Answer → Answer → Bool
 sameAnswer (names a) (names b) = eqb a b
+sameAnswer (names a) done = false
 sameAnswer (names a) (refused b) = false
+sameAnswer done (names b) = false
+sameAnswer done done = true
+sameAnswer done (refused b) = false
 sameAnswer (refused a) (names b) = false
+sameAnswer (refused a) done = false
 sameAnswer (refused a) (refused b) = eqb a b
 
 pub same-answer : (x y : Answer) → sameAnswer x y ≡ true → x ≡ y
 unfolding sameAnswer
 same-answer (names a) (names b) e = ap names (eqb-true a b e)
+same-answer (names a) done e = clash e refl
 same-answer (names a) (refused b) e = clash e refl
+same-answer done (names b) e = clash e refl
+same-answer done done e = refl
+same-answer done (refused b) e = clash e refl
 same-answer (refused a) (names b) e = clash e refl
+same-answer (refused a) done e = clash e refl
 same-answer (refused a) (refused b) e = ap refused (eqb-true a b e)

@@ -32,7 +32,7 @@ use Rattle.reading.specs.Incidence.{incidenceAnswer}
 use Rattle.cases.specs.Cases.{Answer, Asked, Incidence, Counts, Case}
 use Rattle.cases.specs.Cases.Asked.{nothing, call}
 use Rattle.cases.specs.Cases.Counts.{unnamed, seven}
-use Rattle.cases.specs.Claims.{Each, told, answerTo, Leads, IncidenceIs, ReducedWith, Holds}
+use Rattle.cases.specs.Claims.{Each, answerTo, Leads, IncidenceIs, ReducedWith, Holds}
 use Rattle.cases.specs.Claims.Each.{end, _then_}
 use Rattle.cases.proofs.Compared.{sameWords, same-words, isSum, is-sum, sameAnswer, same-answer}
 
@@ -48,7 +48,7 @@ validWords t = sized t && sound t
 
 unfoldable pub goes : List ℕ → Asked → List ℕ → Bool
 goes t nothing u = sameWords t u
-goes t (call r a) u = sameAnswer (told (answerTo t r)) a && sameWords (leftBy t r) u
+goes t (call r a) u = sameAnswer (answerTo t r) a && sameWords (leftBy t r) u
 
 unfoldable pub holesAre : List ℕ → List ℕ → List ℕ → Bool
 holesAre t ev hs = all (top + 1) (λ p. eqb (holesIn (cells t) (rows (cells t) ev) p) (getD hs p 0))
@@ -82,7 +82,7 @@ valid-words t e = sound-is-valid t (and-left (sized t) (sound t) e) (and-right (
 
 goes-to : (t : List ℕ) (r : Request) (a : Answer) (u : List ℕ) → goes t (call r a) u ≡ true → leftBy t r ≡ u
 unfolding goes
-goes-to t r a u e = same-words (leftBy t r) u (and-right (sameAnswer (told (answerTo t r)) a) (sameWords (leftBy t r) u) e)
+goes-to t r a u e = same-words (leftBy t r) u (and-right (sameAnswer (answerTo t r) a) (sameWords (leftBy t r) u) e)
 
 goes-leads : (t : List ℕ) (q : Asked) (u : List ℕ) → Valid t → goes t q u ≡ true → Leads t q u
 unfolding goes
@@ -90,7 +90,7 @@ goes-leads t nothing u v e = same-words t u e
 goes-leads t (call r a) u v e =
     let to : leftBy t r ≡ u = goes-to t r a u e in
     record {
-      answer = same-answer (told (answerTo t r)) a (and-left (sameAnswer (told (answerTo t r)) a) (sameWords (leftBy t r) u) e);
+      answer = same-answer (answerTo t r) a (and-left (sameAnswer (answerTo t r) a) (sameWords (leftBy t r) u) e);
       step = subst (Step t r) to (call-is-step t r);
       only = λ x s. step-is-call v s ∙ to;
     }

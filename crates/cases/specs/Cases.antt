@@ -45,9 +45,10 @@ marking cs = bitsOf cs ∷ []
 
 -- ---- what an entry says
 
--- what a call answers: it names a cell, or it is refused with a number of the published list
+-- what a call answers: it names a cell, it is done and has no cell to name, or it is refused with a number of the published list
 pub data Answer : Type 0 where
   names : ℕ → Answer
+  done : Answer
   refused : ℕ → Answer
 
 pub data Asked : Type 0 where

@@ -9,18 +9,21 @@ use Rattle.homology.specs.Holes.{IsHoleNumber}
 use Rattle.table.specs.Kind.{top}
 use Rattle.table.specs.Table.{Valid}
 use Rattle.calls.specs.Numbers.{numberOf}
+use Rattle.calls.specs.Calls.{onVerdict}
+use Rattle.calls.specs.declared.Verdict.{Verdict}
 use Rattle.calls.specs.declared.Named.{Named}
 use Rattle.calls.specs.declared.Named.the-variants.{Cell, NoCell}
 use Rattle.complex.specs.Cells.{cells}
 use Rattle.reducer.specs.Reduce.{Reduction}
 use Rattle.merge.specs.Merge.{mergeAnswer}
 use Rattle.cone.specs.Cone.{coneAnswer}
+use Rattle.compaction.specs.Call.{compactVerdict}
 use Rattle.building.specs.Runs.{Request, Step}
-use Rattle.building.specs.Runs.Request.{coneOver, mergeOf}
+use Rattle.building.specs.Runs.Request.{coneOver, mergeOf, compaction}
 use Rattle.reading.specs.Incidence.{incidenceAnswer}
 use Rattle.reading.specs.declared.Sum.the-variants.{Is}
 use Rattle.cases.specs.Cases.{Answer, Asked, Incidence, Counts, Case}
-use Rattle.cases.specs.Cases.Answer.{names, refused}
+use Rattle.cases.specs.Cases.Answer.{names, done, refused}
 use Rattle.cases.specs.Cases.Asked.{nothing, call}
 use Rattle.cases.specs.Cases.Counts.{unnamed, seven}
 
@@ -35,14 +38,19 @@ abbrev pub told : Named → Answer
 told (Cell c) = names c
 told (NoCell r) = refused (numberOf r)
 
+-- the same of an answer that names no cell
+abbrev pub toldPlain : Verdict → Answer
+toldPlain v = onVerdict v done (λ r. refused (numberOf r))
+
 -- what the call answers, by its contract
-abbrev pub answerTo : List ℕ → Request → Named
-answerTo t (coneOver marks) = coneAnswer t marks
-answerTo t (mergeOf a b) = mergeAnswer t a b
+abbrev pub answerTo : List ℕ → Request → Answer
+answerTo t (coneOver marks) = told (coneAnswer t marks)
+answerTo t (mergeOf a b) = told (mergeAnswer t a b)
+answerTo t (compaction list) = toldPlain (compactVerdict t list)
 
 -- the request r answers a, and the published rules make of the table t the words u, and nothing else
 pub record Called (t : List ℕ) (r : Request) (a : Answer) (u : List ℕ) : Type 0 where
-  pub answer : told (answerTo t r) ≡ a
+  pub answer : answerTo t r ≡ a
   pub step : Step t r u
   pub only : (x : List ℕ) → Step t r x → x ≡ u
 

@@ -28,6 +28,7 @@ use Rattle.audit.specs.First.{Tells}
 use Rattle.audit.proofs.Naming.{Own, tells-alone, tells-with, unsound-names-first, named-fits}
 use Rattle.complex.specs.Cells.{cells}
 use Rattle.merge.specs.Merge.{pairGrounds, mergeVerdict}
+use Rattle.compaction.specs.Call.{compactVerdict}
 use Rattle.cone.specs.Cone.{marksFit, markGrounds, noRoom, coneVerdict}
 use Rattle.reading.specs.Incidence.{cellGrounds, incidenceGrounds}
 use Rattle.reading.specs.Boundary.{lengthsFit, chainGrounds, boundaryVerdict}
@@ -50,6 +51,10 @@ pub tells-merge : (t : List ℕ) (a b : ℕ) (r : Refusal) → mergeVerdict t a 
 unfolding mergeVerdict
 tells-merge t a b r e =
     tells-alone t (pairGrounds t a b) r (plain (omega arith), (plain (omega arith), (plain (omega arith), (plain (omega arith), tt)))) e
+
+pub tells-compact : (t list : List ℕ) (r : Refusal) → compactVerdict t list ≡ Refused r → Tells t r
+unfolding compactVerdict
+tells-compact t list r e = tells-with t (eqb (length list) (cellsOf t)) [] r tt e
 
 pub tells-cone : (t marks : List ℕ) (r : Refusal) → coneVerdict t marks ≡ Refused r → Tells t r
 unfolding coneVerdict

@@ -16,6 +16,7 @@ use Rattle.audit.specs.Audit.{auditGrounds}
 use Rattle.audit.specs.Empty.{emptyVerdict}
 use Rattle.merge.specs.Merge.{mergeGrounds, mergeVerdict}
 use Rattle.cone.specs.Cone.{coneGrounds, coneVerdict}
+use Rattle.compaction.specs.Call.{compactGrounds, compactVerdict}
 use Rattle.reading.specs.Incidence.{incidenceGrounds}
 use Rattle.corner.specs.Corner.{cornerGrounds}
 use Rattle.reducer.specs.Reduce.{reduceGrounds, reduceVerdict}
@@ -36,6 +37,10 @@ pub lowest-merge : (t : List ℕ) (a b : ℕ) (r : Refusal) → mergeVerdict t a
 unfolding mergeVerdict
 lowest-merge t a b r e =
     lowest-applies 0 (mergeGrounds t a b) r (omega arith, (omega arith, (omega arith, (omega arith, (omega arith, (omega arith, tt)))))) e
+
+pub lowest-compact : (t list : List ℕ) (r : Refusal) → compactVerdict t list ≡ Refused r → Lowest (compactGrounds t list) r
+unfolding compactVerdict
+lowest-compact t list r e = lowest-applies 0 (compactGrounds t list) r (omega arith, (omega arith, tt)) e
 
 pub lowest-incidence : (t : List ℕ) (s u : ℕ) (r : Refusal) → verdict (incidenceGrounds t s u) ≡ Refused r → Lowest (incidenceGrounds t s u) r
 lowest-incidence t s u r e =

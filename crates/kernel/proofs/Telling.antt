@@ -16,11 +16,12 @@ use Rattle.complex.specs.Cells.{cells}
 use Rattle.rows.specs.Rows.{rows}
 use Rattle.checker.specs.Check.{checkVerdict, perDimension, Checks}
 use Rattle.checker.specs.declared.Checked.{Checked}
+use Rattle.compaction.specs.Call.{Compacts}
 use Rattle.reducer.specs.Reduce.{Reduces, reduceVerdict}
 use Rattle.reducer.specs.declared.Reduced.{Reduced}
 use Rattle.writer.specs.declared.Written.{Written}
 use Rattle.kernel.specs.Face.{code, writtenCode, writtenValue, sevenAfter, Fills}
-use Rattle.kernel.specs.Calls.{CheckEnds, ReduceEnds}
+use Rattle.kernel.specs.Calls.{CompactEnds, CheckEnds, ReduceEnds}
 
 -- a verdict's code
 pub coded : {B : Type 0} {v w : Verdict} {b l : B} {r : ℕ} → Ends v b w l → r ≡ code w → Ends (code v) b r l
@@ -40,6 +41,10 @@ filled codeOf valueOf a a′ old v r left l e q w =
 pub filled-by : {left l : List ℕ} {a a′ a″ : Written} {v r : ℕ} (old : ℕ) → Ends a left a′ l → a′ ≡ a″ → r ≡ writtenCode a″ → v ≡ writtenValue a″ old → Fills (writtenCode a) left (writtenValue a old) r l v
 filled-by {left} {l} {a} {a′} {a″} {v} {r} old e i q w =
     filled writtenCode writtenValue a a′ old v r left l e (q ∙ sym (ap writtenCode i)) (w ∙ sym (ap (λ x. writtenValue x old) i))
+
+-- a compaction, with both its buffers
+pub compact-coded : {t list t′ list′ : List ℕ} {v : Verdict} {r : ℕ} → Compacts t list v t′ list′ → r ≡ code v → CompactEnds t list r t′ list′
+compact-coded e q = record { answer = q ∙ ap code (e .answer); table = e .table; numbers = e .numbers }
 
 accepted-not-refused : (v : Verdict) (x : Refusal) → v ≡ Accepted → v ≡ Refused x → ⊥
 accepted-not-refused v x p q = let z : _≡_ {A = ℕ} 0 1 = cc in omega arith

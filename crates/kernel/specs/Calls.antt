@@ -16,6 +16,7 @@ use Rattle.audit.specs.Empty.{emptyVerdict, emptyLeaves}
 use Rattle.complex.specs.Cells.{cells}
 use Rattle.merge.specs.Merge.{mergeAnswer, mergeLeaves}
 use Rattle.cone.specs.Cone.{coneAnswer, coneLeaves}
+use Rattle.compaction.specs.Call.{compactVerdict, compactLeaves, compactLists}
 use Rattle.reading.specs.Incidence.{incidenceAnswer}
 use Rattle.reading.specs.Boundary.{boundaryVerdict, boundaryLeaves}
 use Rattle.corner.specs.Corner.{cornerAnswer}
@@ -40,6 +41,12 @@ ConeEnds t marks apex₀ r t′ apex =
 abbrev pub MergeEnds : List ℕ → ℕ → ℕ → ℕ → ℕ → List ℕ → ℕ → Type 0
 MergeEnds t a b kept₀ r t′ kept =
     Fills (namedCode (mergeAnswer t a b)) (mergeLeaves t a b) (namedValue (mergeAnswer t a b) kept₀) r t′ kept
+
+-- a compaction: the table and the list
+pub record CompactEnds (t list : List ℕ) (r : ℕ) (t′ list′ : List ℕ) : Type 0 where
+  pub answer : r ≡ code (compactVerdict t list)
+  pub table : t′ ≡ compactLeaves t list
+  pub numbers : list′ ≡ compactLists t list
 
 abbrev pub IncidenceEnds : List ℕ → ℕ → ℕ → ℤ → ℕ → ℤ → Type 0
 IncidenceEnds t s u sum₀ r sum = Ends (sumCode (incidenceAnswer t s u)) (sumValue (incidenceAnswer t s u) sum₀) r sum

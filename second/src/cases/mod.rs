@@ -1,6 +1,7 @@
 //! Cases with the answers that the request gives them, against the model and, when it is linked, the library.
 
 mod breach;
+mod compaction;
 mod measured;
 
 use crate::call::{taken_apart, Call, Case, Outcome, Run};
@@ -106,7 +107,7 @@ pub type Titled = (&'static str, fn(Run) -> Verdict);
 
 /// All cases.
 pub fn titled() -> Vec<Titled> {
-    [measured::ALL, breach::ALL].concat()
+    [measured::ALL, breach::ALL, compaction::ALL].concat()
 }
 
 /// Runs all cases with each of the named runs; one line for each case. Answers whether all held.

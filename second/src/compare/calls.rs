@@ -12,7 +12,7 @@ use crate::random::Random;
 /// A random call on the table, which may be damaged; now and then a buffer has a wrong length.
 pub fn random_case(random: &mut Random, words: &[u16]) -> Case {
     let table = Table::decode(words).ok();
-    let place = random.pick(&[0, 1, 2, 2, 3, 3, 4, 4, 5, 5, 5, 6, 6, 7, 7, 8, 9, 9, 9, 10, 11, 11, 11]);
+    let place = random.pick(&[0, 1, 2, 2, 3, 3, 4, 4, 5, 5, 5, 6, 6, 7, 7, 8, 9, 9, 9, 10, 11, 11, 11, 12]);
     let call = random_call(random, words, table.as_ref(), place);
     let mut case = Case { table: words.to_vec(), call };
     if let Call::Read { file } = &case.call {
@@ -61,11 +61,12 @@ pub fn random_call(random: &mut Random, words: &[u16], table: Option<&Table>, pl
             };
             Call::Write { target: (0..length).map(|_| random.next() as u8).collect() }
         }
-        _ => {
+        11 => {
             let other = random_room(random, MOST);
             let room = if random.once_in(2) { room } else { other };
             Call::Read { file: random_file(random, room) }
         }
+        _ => Call::Compact { list: (0..room).map(|_| random.word()).collect() },
     }
 }
 
@@ -254,6 +255,7 @@ fn wrong_length(random: &mut Random, case: &mut Case) {
             change(random, buffer);
         }
         Call::Reduce { evidence } | Call::Check { evidence } => change(random, evidence),
+        Call::Compact { list } => change(random, list),
         _ => change(random, &mut case.table),
     }
 }

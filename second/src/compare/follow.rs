@@ -1,9 +1,10 @@
-//! What 01 states of an accepted call, beyond its answer: tried with further calls on what it left.
+//! What 01 and 02 state of an accepted call, beyond its answer: tried with further calls on what it left.
 
 use super::runs::{shown, Comparison, Difference};
 use crate::call::{Call, Case, Outcome};
 use crate::model::ranks;
-use crate::model::table::DIMENSIONS;
+use crate::model::table::*;
+use crate::random::Random;
 
 fn hold(case: &Case, holds: bool, what: &str) -> Result<(), Difference> {
     match holds {
@@ -44,6 +45,11 @@ impl Comparison {
                 hold(case, found.eq(holes.map(i64::from).iter()), "the hole numbers are those of the ranks")
             }
             Call::Write { .. } | Call::Read { .. } => self.there_and_back(case, outcome),
+            Call::Compact { list } => {
+                self.stays_valid(case, outcome)?;
+                self.once_more(case, outcome)?;
+                self.under_the_list(case, &outcome.after.table, list)
+            }
             _ => Ok(()),
         }
     }
@@ -51,6 +57,33 @@ impl Comparison {
     fn stays_valid(&mut self, case: &Case, outcome: &Outcome) -> Result<(), Difference> {
         let audit = self.call(&Case { table: outcome.after.table.clone(), call: Call::Audit })?;
         hold(case, audit.word == 0, "what is left is valid")
+    }
+
+    /// "A second run changes no table word": its list leaves every number as it is.
+    fn once_more(&mut self, case: &Case, outcome: &Outcome) -> Result<(), Difference> {
+        let again = self.call(&outcome.after)?;
+        hold(case, again.after.table == outcome.after.table, "a second compaction changes no word")?;
+        let Call::Compact { list } = &again.after.call else { unreachable!() };
+        let stays = (0..).zip(list).all(|(number, new)| [number, FREE].contains(new));
+        hold(case, stays, "the list of a second compaction changes no number")
+    }
+
+    /// "Has the same hole numbers", and "incidence between any two cells is the same under the list".
+    fn under_the_list(&mut self, case: &Case, compacted: &[u16], list: &[u16]) -> Result<(), Difference> {
+        hold(case, ranks::holes(&case.table) == ranks::holes(compacted), "the hole numbers stay")?;
+        let table = Table::decode(&case.table).expect("a valid table");
+        let live: Vec<(u16, &Cell)> = table.live().collect();
+        let random = &mut Random::new(case.table.iter().map(|word| u64::from(*word)).sum());
+        for _ in 0..live.len().min(2) {
+            let ((cell, s), (other, _)) = (random.pick(&live), random.pick(&live));
+            let face = if s.faces.is_empty() { other } else { random.pick(&[&s.faces[..], &[other]].concat()) };
+            let before = self.call(&Case { table: case.table.clone(), call: Call::Incidence { cell, face } })?;
+            let (cell, face) = (list[cell as usize], list[face as usize]);
+            let after = self.call(&Case { table: compacted.to_vec(), call: Call::Incidence { cell, face } })?;
+            let same = (before.word, before.values) == (after.word, after.values);
+            hold(case, same, "incidence is the same under the list")?;
+        }
+        Ok(())
     }
 
     fn boundary_twice(&mut self, case: &Case, outcome: &Outcome) -> Result<(), Difference> {

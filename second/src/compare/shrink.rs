@@ -72,8 +72,9 @@ fn lower_room(case: &Case, smaller: usize) -> Option<Case> {
             let rows = evidence.chunks(old).take(smaller);
             *evidence = rows.flat_map(|row| row[..new].to_vec()).collect();
         }
+        Call::Compact { list } if list.len() == room => list.truncate(smaller),
         Call::Cone { .. } | Call::Boundary { .. } | Call::Reduce { .. } | Call::Check { .. } => return None,
-        Call::Read { .. } => return None,
+        Call::Read { .. } | Call::Compact { .. } => return None,
         _ => {}
     }
     Some(less)

@@ -5,6 +5,7 @@
 
 pub mod breach;
 pub mod building;
+pub mod compaction;
 pub mod evidence;
 pub mod ranks;
 pub mod reading;

@@ -1,0 +1,5 @@
+pub mod Numbers
+pub mod Faces
+pub mod Swaps
+pub mod Settling
+pub mod Whole

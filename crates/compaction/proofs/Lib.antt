@@ -1,0 +1,10 @@
+pub mod Counted
+pub mod Numbering
+pub mod Determines
+pub mod Kept
+pub mod Again
+pub mod SameHoles
+pub mod Incidence
+pub mod Answers
+pub mod Calls
+pub mod Worked
