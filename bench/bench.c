@@ -20,7 +20,7 @@ static struct {
     const struct piece *piece;
     size_t words, row, length;
     uint16_t copies[COPIES][64], two[2][PL_RECORD * PL_ROOM], target[PL_RECORD * PL_ROOM];
-    uint16_t cells[PL_DIMENSIONS], holes[PL_DIMENSIONS], cell, face, point, list[PL_ROOM];
+    uint16_t cells[PL_DIMENSIONS], holes[PL_DIMENSIONS], cell, face, point, first, list[PL_ROOM];
     int64_t chain[PL_ROOM], boundary[PL_ROOM], sum;
     uint64_t evidence[PL_ROOM * PL_ROW], made[PL_ROOM * PL_ROW], additions[PL_DIMENSIONS];
     uint8_t file[PL_LONGEST], written[PL_LONGEST], yes;
@@ -59,7 +59,7 @@ READING(check, check(t, words, lent.evidence, n * lent.row, lent.cells, lent.hol
 READING(put, write(t, words, lent.written, PL_LONGEST, &got))
 READING(get, read(lent.target, words, lent.file, lent.length))
 
-/* Cone, merge and compaction change the table, so each call of a stretch has a fresh copy; copies are made outside the measured time and are few
+/* Cone, merge, weld and compaction change the table, so each call of a stretch has a fresh copy; copies are made outside the measured time and are few
  * enough to stay in the first cache. */
 #define CHANGING(name, call)                                                         \
     static double name(const struct calls *s, size_t times)                          \
@@ -84,6 +84,7 @@ READING(get, read(lent.target, words, lent.file, lent.length))
 
 CHANGING(cone, cone(t, words, lent.piece->marks, lent.row, &given))
 CHANGING(merge, merge(t, words, lent.piece->a, lent.piece->b, &given))
+CHANGING(weld, weld(t, words, lent.first, lent.cell, &given))
 CHANGING(compact, compact(t, words, lent.list, lent.piece->n))
 
 static int rising(const void *a, const void *b)
@@ -120,7 +121,7 @@ static double ratio_of(const char *call, measure *m)
     return r;
 }
 
-/* Prepares chain, evidence, file and named cells of a table: the last cell of its dimension, and that cell's last face. */
+/* Prepares chain, evidence, file and named cells of a table: the first and the last cell of its dimension, and the last one's last face. */
 static void take(const struct piece *t)
 {
     uint64_t state = 521288629u;
@@ -130,6 +131,10 @@ static void take(const struct piece *t)
     for (size_t c = 0; c < t->n; c++)
         if (t->words[PL_RECORD * c] == t->dimension)
             lent.cell = (uint16_t)c;
+    lent.first = lent.cell;
+    for (size_t c = t->n; c-- > 0;)
+        if (t->words[PL_RECORD * c] == t->dimension)
+            lent.first = (uint16_t)c;
     lent.face = t->words[PL_RECORD * lent.cell + 1 + t->dimension];
     for (size_t c = 0; c < t->n; c++)
         lent.chain[c] = t->words[PL_RECORD * c] == t->dimension ? (int64_t)draw(&state, 2001) - 1000 : 0;
@@ -140,13 +145,15 @@ static void take(const struct piece *t)
 static const struct {
     const char *name;
     measure *measure;
-} list[CALLS] = {{"audit", audit},   {"merge", merge}, {"cone", cone},     {"compact", compact}, {"incidence", incidence}, {"boundary", boundary}, {"corner", corner},
-                 {"sheet", sheet},   {"reduce", reduce}, {"check", check}, {"read", get},            {"write", put}};
+} list[CALLS] = {{"audit", audit},         {"merge", merge},       {"weld", weld},     {"cone", cone},   {"compact", compact},
+                 {"incidence", incidence}, {"boundary", boundary}, {"corner", corner}, {"sheet", sheet}, {"reduce", reduce},
+                 {"check", check},         {"read", get},          {"write", put}};
 
-/* Whether a call is measured on a table: audit and compaction on all, a merge where two cells are named, else on the tables with room for a cone or on the others. */
+/* Whether a call is measured on a table: audit and compaction on all, merge and weld where two cells are named, else on the tables with
+ * room for a cone or on the others. */
 static int asked(measure *m, const struct piece *t)
 {
-    return m == audit || m == compact || (m == merge ? t->a != t->b : (m == cone) == t->conable);
+    return m == audit || m == compact || (m == merge || m == weld ? t->a != t->b : (m == cone) == t->conable);
 }
 
 static int wanted(const char *name, int count, char **names)

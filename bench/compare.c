@@ -8,9 +8,10 @@
 
 static struct outcome left, right;
 
-enum call { AUDIT, CONE, MERGE, COMPACT, INCIDENCE, BOUNDARY, CORNER, SHEET, REDUCE, CHECK, WRITE, READ, CALLS };
+enum call { AUDIT, CONE, MERGE, WELD, COMPACT, INCIDENCE, BOUNDARY, CORNER, SHEET, REDUCE, CHECK, WRITE, READ, CALLS };
 
-static const char *const names[CALLS] = {"audit", "cone", "merge", "compact", "incidence", "boundary", "corner", "sheet", "reduce", "check", "write", "read"};
+static const char *const names[CALLS] = {"audit",  "cone",  "merge",  "weld",  "compact", "incidence", "boundary",
+                                         "corner", "sheet", "reduce", "check", "write",   "read"};
 
 /* What one round of calls is given. */
 struct input {
@@ -30,6 +31,7 @@ static void one(const struct calls *s, enum call call, const struct input *in, s
     case AUDIT: out->answer = s->audit(out->words, words); break;
     case CONE: out->answer = s->cone(out->words, words, in->marks, row, &out->apex); break;
     case MERGE: out->answer = s->merge(out->words, words, in->a, in->b, &out->kept); break;
+    case WELD: out->answer = s->weld(out->words, words, in->a, in->b, &out->kept); break;
     case COMPACT: out->answer = s->compact(out->words, words, out->list, in->n); break;
     case INCIDENCE: out->answer = s->incidence(out->words, words, in->a, in->b, &out->incidence); break;
     case BOUNDARY: out->answer = s->boundary(out->words, words, in->chain, in->n, in->dimension, out->boundary, in->n); break;

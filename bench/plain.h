@@ -27,6 +27,7 @@ enum {
 uint32_t pl_audit(const uint16_t *table, size_t words);
 uint32_t pl_cone(uint16_t *table, size_t words, const uint64_t *marks, size_t mark_words, uint16_t *apex);
 uint32_t pl_merge(uint16_t *table, size_t words, uint16_t a, uint16_t b, uint16_t *kept);
+uint32_t pl_weld(uint16_t *table, size_t words, uint16_t a, uint16_t b, uint16_t *kept);
 uint32_t pl_compact(uint16_t *table, size_t words, uint16_t *list, size_t list_len);
 uint32_t pl_incidence(const uint16_t *table, size_t words, uint16_t cell, uint16_t face, int64_t *incidence);
 uint32_t pl_boundary(const uint16_t *table, size_t words, const int64_t *chain, size_t chain_len, uint16_t dimension,

@@ -12,7 +12,7 @@
 
 enum { STACK = 1 << 20, CALLS = 10 };
 
-static const char *const names[CALLS] = {"audit", "merge", "cone", "boundary", "sheet", "reduce", "check", "read", "write", "compact"};
+static const char *const names[CALLS] = {"audit", "merge", "cone", "boundary", "sheet", "reduce", "check", "read", "write", "compact", "weld"};
 static const size_t rooms[3] = {8, 64, PL_ROOM};
 
 static struct piece pieces[TABLES];
@@ -51,6 +51,7 @@ static __attribute__((noinline)) void call(void)
     case 7: work.answer = s->read(t, words, work.file, work.length); break;
     case 8: work.answer = s->write(t, words, work.written, PL_LONGEST, &work.length); break;
     case 9: work.answer = s->compact(t, words, work.list, work.n); break;
+    case 10: work.answer = s->weld(t, words, work.a, work.b, &work.number); break;
     default: work.answer = 0;
     }
 }

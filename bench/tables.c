@@ -1,14 +1,15 @@
-/* The measured tables: tori, cones, six-cells, random triangles, cells of dimension 5 and 6, the worst star, small ones, a torus under drawn numbers. */
+/* The measured tables: tori, cones, six-cells, random triangles, cells of dimension 5 and 6, the worst star, small ones, a torus under drawn
+ * numbers, two simplices. */
 #include "tables.h"
 #include "bumbleturf.h"
 #include "plain.h"
 
 #include <string.h>
 
-const struct calls library = {bt_audit,  bt_cone,   bt_merge, bt_compact, bt_incidence, bt_boundary, bt_corner,
-                              bt_sheet,  bt_reduce, bt_check, bt_write,     bt_read};
-const struct calls plain = {pl_audit,  pl_cone,   pl_merge, pl_compact, pl_incidence, pl_boundary, pl_corner,
-                            pl_sheet,  pl_reduce, pl_check, pl_write,     pl_read};
+const struct calls library = {bt_audit,    bt_cone,   bt_merge, bt_weld,   bt_compact, bt_incidence,
+                              bt_boundary, bt_corner, bt_sheet, bt_reduce, bt_check,   bt_write, bt_read};
+const struct calls plain = {pl_audit,    pl_cone,   pl_merge, pl_weld,   pl_compact, pl_incidence,
+                            pl_boundary, pl_corner, pl_sheet, pl_reduce, pl_check,   pl_write, pl_read};
 
 uint32_t draw(uint64_t *state, uint32_t limit)
 {
@@ -87,6 +88,19 @@ static void cones(struct piece *t, unsigned count)
     marking(t, made);
     for (unsigned i = 0; i < count; i++)
         pl_cone(t->words, PL_RECORD * t->n, t->marks, (t->n + 63) / 64, &apex);
+}
+
+/* A simplex of dimension 6, 127 cells, and beside it the same again: a weld of their two six-cells joins all of them. */
+static void simplices(struct piece *t)
+{
+    cones(t, 1);
+    for (unsigned c = 0; c < 127; c++) {
+        const uint16_t *r = t->words + PL_RECORD * c;
+        unsigned faces[PL_FACES];
+        for (unsigned j = 0; j < PL_FACES; j++)
+            faces[j] = r[1 + j] + 127u;
+        cell(t, c + 127, r[0], faces);
+    }
 }
 
 /* Points 0 to k; a star from point k, the highest, to k-1, k-2, .. 0; the rest of the table repeats the last edge. The i-th edge of
@@ -191,4 +205,8 @@ void fill_tables(struct piece pieces[TABLES])
     t = begin(&pieces[10], "scattered torus", PL_ROOM, 2);
     torus(t, 17, 4);
     scatter(t);
+    t = begin(&pieces[11], "two simplices, 254", PL_ROOM, 6);
+    simplices(t);
+    merging(t, 0, 127);
+    marking(t, 0);
 }

@@ -34,6 +34,7 @@ struct calls {
     uint32_t (*audit)(const uint16_t *, size_t);
     uint32_t (*cone)(uint16_t *, size_t, const uint64_t *, size_t, uint16_t *);
     uint32_t (*merge)(uint16_t *, size_t, uint16_t, uint16_t, uint16_t *);
+    uint32_t (*weld)(uint16_t *, size_t, uint16_t, uint16_t, uint16_t *);
     uint32_t (*compact)(uint16_t *, size_t, uint16_t *, size_t);
     uint32_t (*incidence)(const uint16_t *, size_t, uint16_t, uint16_t, int64_t *);
     uint32_t (*boundary)(const uint16_t *, size_t, const int64_t *, size_t, uint16_t, int64_t *, size_t);

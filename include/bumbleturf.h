@@ -10,7 +10,7 @@
  *    1 a length is not the stated one        9 too few free records, or the target is too short
  *    2 the table is not valid               10 a coefficient outside -2^40 to 2^40
  *    3 a named or marked number is no cell  11 a coefficient at a number that is no live p-cell
- *    4 merge names one cell twice           12 dimension above 6, or corner index above p
+ *    4 merge or weld names one cell twice   12 dimension above 6, or corner index above p
  *    5 dimensions do not fit                13 rule A of the evidence is broken
  *    6 face lists differ                    14 rule B of the evidence is broken
  *    7 marks are not closed                 15 the file's contents or length are wrong
@@ -67,6 +67,10 @@ uint32_t bt_cone(uint16_t *table, size_t words, const uint64_t *marks, size_t ma
 
 /* Joins two different live cells of one dimension with equal face lists; the smaller number is kept. Refused: 1 to 6. */
 uint32_t bt_merge(uint16_t *table, size_t words, uint16_t a, uint16_t b, uint16_t *kept);
+
+/* Joins two different live cells of one dimension, their faces place by place, and so on down; each class of joined cells becomes its
+ * smallest number, *kept is that of a and b. It is what the single merges from dimension 0 upward give. Refused: 1 to 5. */
+uint32_t bt_weld(uint16_t *table, size_t words, uint16_t a, uint16_t b, uint16_t *kept);
 
 /* Renumbers the live cells 0, 1, 2, .. by dimension, then by old number, and moves the free records to the end; list, N words, gets each
  * old number's new one, 65535 for a free number. Evidence made before is for the old numbers. Refused: 1, 2. */

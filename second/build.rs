@@ -9,7 +9,7 @@ use std::path::Path;
 use std::process::Command;
 
 /// The names of the C header.
-const NAMES: [&str; 13] = [
+const NAMES: [&str; 14] = [
     "bt_empty",
     "bt_audit",
     "bt_cone",
@@ -23,6 +23,7 @@ const NAMES: [&str; 13] = [
     "bt_write",
     "bt_read",
     "bt_compact",
+    "bt_weld",
 ];
 
 /// Joins the library to one object with no other visible names; answers whether that was done.

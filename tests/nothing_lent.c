@@ -30,6 +30,7 @@ static void no_table(void)
     refused("cone without a table", bt_cone(NULL, 0, words, 1, &number), LENGTH);
     refused("cone without anything", bt_cone(NULL, 0, NULL, 0, &number), LENGTH);
     refused("merge without a table", bt_merge(NULL, 0, 0, 1, &number), LENGTH);
+    refused("weld without a table", bt_weld(NULL, 0, 0, 1, &number), LENGTH);
     refused("compact without a table", bt_compact(NULL, 0, list, CELLS), LENGTH);
     refused("compact without anything", bt_compact(NULL, 0, NULL, 0), LENGTH);
     refused("incidence without a table", bt_incidence(NULL, 0, 0, 1, &sum), LENGTH);

@@ -61,6 +61,8 @@ static uint32_t run(void)
     printf("point with edge: refused %u\n", (unsigned)bt_number(refused));
     if ((refused = bt_compact(table, 8 * N, list, N))) return refused;      /* points first, then edges, then triangles */
     printf("compacted: edge 2 is now %u\n", (unsigned)list[2]);
+    if ((refused = bt_weld(table, 8 * N, list[4], list[7], &a))) return refused; /* one cap on the other, with edge and tip */
+    if ((refused = show("caps welded"))) return refused;
     table[8 * list[2] + 1] = 700;                                           /* face 0 of that edge */
     printf("broken by hand: ");
     tell(bt_audit(table, 8 * N));

@@ -34,6 +34,8 @@ fn main() -> Result<(), Refusal> {
     let mut list = vec![0; part.room()];
     part.compact(&mut list)?; // points first, then edges, then triangles
     println!("compacted: edge {edge} is now {}", list[usize::from(edge)]);
+    part.weld(list[4], list[7])?; // one cap on the other, with edge and tip
+    show("caps welded", &part)?;
     let edge = list[usize::from(edge)];
     part.words_mut()[RECORD_WORDS * usize::from(edge) + 1] = 700; // face 0 of the edge
     match part.audit() {

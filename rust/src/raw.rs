@@ -7,6 +7,7 @@ extern "C" {
     pub fn bt_audit(table: *const u16, words: usize) -> u32;
     pub fn bt_cone(table: *mut u16, words: usize, marks: *const u64, mark_words: usize, apex: *mut u16) -> u32;
     pub fn bt_merge(table: *mut u16, words: usize, a: u16, b: u16, kept: *mut u16) -> u32;
+    pub fn bt_weld(table: *mut u16, words: usize, a: u16, b: u16, kept: *mut u16) -> u32;
     pub fn bt_compact(table: *mut u16, words: usize, list: *mut u16, list_len: usize) -> u32;
     pub fn bt_incidence(table: *const u16, words: usize, cell: u16, face: u16, sum: *mut i64) -> u32;
     pub fn bt_boundary(

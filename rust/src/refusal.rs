@@ -14,9 +14,9 @@ pub enum Refusal {
     Invalid(Breach),
     /// 3: a named or marked number is not a live cell.
     NotLive,
-    /// 4: a merge names one cell twice.
+    /// 4: a merge or weld names one cell twice.
     SameCell,
-    /// 5: a merge of unequal dimensions, or an incidence where p and p−1 do not fit.
+    /// 5: a merge or weld of unequal dimensions, or an incidence where p and p−1 do not fit.
     DimensionsDiffer,
     /// 6: a merge of cells whose face lists differ.
     FacesDiffer,
@@ -104,7 +104,7 @@ impl fmt::Display for Refusal {
             Refusal::Length => "a length is not the stated one",
             Refusal::Invalid(breach) => return write!(f, "the table is not valid; {breach}"),
             Refusal::NotLive => "a named or marked number is not a live cell",
-            Refusal::SameCell => "the merge names one cell twice",
+            Refusal::SameCell => "one cell is named twice",
             Refusal::DimensionsDiffer => "the dimensions of the two cells do not fit",
             Refusal::FacesDiffer => "the face lists of the two cells differ",
             Refusal::NotClosed => "a face of a marked cell is not marked",

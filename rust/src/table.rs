@@ -217,6 +217,15 @@ impl<W: AsRef<[u16]> + AsMut<[u16]>> Table<W> {
         Ok(kept)
     }
 
+    /// Joins two different live cells of one dimension, their faces place by place, and so on down; each class of joined cells becomes its
+    /// smallest number. Answers the kept number of the two. Refused: 1, 2, 3, 4 where `a` is `b`, 5 for unequal dimensions.
+    pub fn weld(&mut self, a: u16, b: u16) -> Result<u16, Refusal> {
+        let t = self.words_mut();
+        let mut kept = 0;
+        Refusal::answer(unsafe { bt_weld(t.as_mut_ptr(), t.len(), a, b, &mut kept) })?;
+        Ok(kept)
+    }
+
     /// Renumbers the live cells 0, 1, 2, .. by dimension, then by old number, and moves the free records to the end. The list, N words,
     /// gets each old number's new one, [`FREE`] for a free number. Evidence made before is for the old numbers. Refused: 1, 2.
     pub fn compact(&mut self, list: &mut [u16]) -> Result<(), Refusal> {

@@ -49,6 +49,40 @@ fn a_segment_with_merged_ends_is_a_loop() {
 }
 
 #[test]
+fn a_weld_joins_the_sides_too() {
+    // Two triangles apart from each other: points 0 1 2, edges 3 4 5, triangle 6, and the same from 10 on.
+    let one: [(u16, u16, &[u16]); 7] =
+        [(0, 0, &[]), (1, 0, &[]), (2, 0, &[]), (3, 1, &[2, 1]), (4, 1, &[2, 0]), (5, 1, &[1, 0]), (6, 2, &[3, 4, 5])];
+    let mut table = made(20, &one);
+    let (low, high) = table.words_mut().split_at_mut(RECORD_WORDS * 10);
+    for (word, copy) in low.iter().zip(high) {
+        *copy = *word;
+    }
+    for cell in [13, 14, 15, 16] {
+        for face in &mut table.words_mut()[RECORD_WORDS * cell + 1..RECORD_WORDS * (cell + 1)] {
+            *face = face.saturating_add(10);
+        }
+    }
+    assert_eq!(table.count().unwrap().holes[..3], [2, 0, 0]);
+    let mut one = table.clone();
+    assert_eq!(table.merge(16, 6), Err(Refusal::FacesDiffer));
+    assert_eq!(table.weld(16, 6), Ok(6));
+    assert!(table.words()[RECORD_WORDS * 7..].iter().all(|&word| word == FREE));
+    for (a, b) in [(0, 10), (1, 11), (2, 12), (3, 13), (4, 14), (5, 15), (6, 16)] {
+        assert_eq!(one.merge(a, b), Ok(a));
+    }
+    assert_eq!(table, one);
+    assert_eq!(table.weld(6, 16), Err(Refusal::NotLive));
+    assert_eq!(table.weld(6, 6), Err(Refusal::SameCell));
+    assert_eq!(table.weld(6, 3), Err(Refusal::DimensionsDiffer));
+
+    // Edges in opposite directions become a loop.
+    let mut table = made(8, &[(0, 0, &[]), (1, 0, &[]), (2, 1, &[1, 0]), (3, 1, &[0, 1])]);
+    assert_eq!(table.weld(2, 3), Ok(2));
+    assert_eq!(table, made(8, &[(0, 0, &[]), (2, 1, &[0, 0])]));
+}
+
+#[test]
 fn a_compaction_closes_the_gaps() {
     // Points 1 and 6, edges 0 (6,1) and 4 (1,1), triangle 3 (0,0,4).
     let mut table = made(8, &[(1, 0, &[]), (6, 0, &[]), (0, 1, &[6, 1]), (4, 1, &[1, 1]), (3, 2, &[0, 0, 4])]);

@@ -2,7 +2,7 @@
 
 use crate::model::breach::Kind;
 use crate::model::table::{Answer, Refusal, DIMENSIONS, FREE, RECORD};
-use crate::model::{building, compaction, evidence, reading, sketch};
+use crate::model::{building, compaction, evidence, reading, sketch, weld};
 
 /// What a value pointer refers to before the call. No accepted call answers these values.
 pub const BEFORE_8: u8 = 0x5A;
@@ -25,10 +25,11 @@ pub enum Call {
     Write { target: Vec<u8> },
     Read { file: Vec<u8> },
     Compact { list: Vec<u16> },
+    Weld { a: u16, b: u16 },
 }
 
 /// The names of the calls and the refusals that 01 and 02 give each of them.
-pub const NAMES: [(&str, &[u32]); 13] = [
+pub const NAMES: [(&str, &[u32]); 14] = [
     ("empty", &[1]),
     ("audit", &[1, 2]),
     ("cone", &[1, 2, 3, 7, 8, 9]),
@@ -42,6 +43,7 @@ pub const NAMES: [(&str, &[u32]); 13] = [
     ("write", &[1, 2, 9]),
     ("read", &[1, 2, 15, 16]),
     ("compact", &[1, 2]),
+    ("weld", &[1, 2, 3, 4, 5]),
 ];
 
 impl Call {
@@ -61,6 +63,7 @@ impl Call {
             Call::Write { .. } => 10,
             Call::Read { .. } => 11,
             Call::Compact { .. } => 12,
+            Call::Weld { .. } => 13,
         }
     }
 }
@@ -161,6 +164,7 @@ pub fn by_model(case: &Case) -> Outcome {
         Call::Write { target } => one(sketch::write(table, target).map(|length| length as i64), BEFORE_64),
         Call::Read { file } => plain(sketch::read(table, file)),
         Call::Compact { list } => plain(compaction::compact(table, list)),
+        Call::Weld { a, b } => one(weld::weld(table, *a, *b), BEFORE_16.into()),
     };
     Outcome { word, values, after, guard: None }
 }

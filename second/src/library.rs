@@ -37,6 +37,7 @@ extern "C" {
     ) -> u32;
     fn bt_write(table: *const u16, words: usize, target: *mut u8, target_len: usize, written: *mut usize) -> u32;
     fn bt_read(table: *mut u16, words: usize, file: *const u8, file_len: usize) -> u32;
+    fn bt_weld(table: *mut u16, words: usize, a: u16, b: u16, kept: *mut u16) -> u32;
     fn bt_compact(table: *mut u16, words: usize, list: *mut u16, list_len: usize) -> u32;
 }
 
@@ -133,6 +134,7 @@ impl Lent {
                 Call::Audit => bt_audit(table, words),
                 Call::Cone { .. } => bt_cone(table, words, bits, bit_words, short),
                 Call::Merge { a, b } => bt_merge(table, words, *a, *b, short),
+                Call::Weld { a, b } => bt_weld(table, words, *a, *b, short),
                 Call::Incidence { cell, face } => bt_incidence(table, words, *cell, *face, long),
                 Call::Boundary { dimension, .. } => {
                     let (chain, chain_len) = (self.chain.start(), self.chain.len());
@@ -180,7 +182,7 @@ pub fn by_library(case: &Case) -> Outcome {
     };
     let (values, call) = match case.call.clone() {
         Call::Cone { .. } => (one_short(note), Call::Cone { marks: bits }),
-        call @ (Call::Merge { .. } | Call::Corner { .. }) => (one_short(note), call),
+        call @ (Call::Merge { .. } | Call::Weld { .. } | Call::Corner { .. }) => (one_short(note), call),
         call @ Call::Incidence { .. } => (one_long(note), call),
         Call::Boundary { dimension, .. } => (vec![], Call::Boundary { chain, dimension, result }),
         Call::Sheet => (byte, Call::Sheet),

@@ -1,12 +1,14 @@
 //! Unit tests of the model: the cases of 01, its file, and small properties on random tables.
 
 mod compaction;
+mod weld;
 
 use crate::call::by_model;
+use crate::compare::broken::{damage, one_breach};
 use crate::compare::damages;
 use crate::compare::runs::Comparison;
 use crate::compare::shrink::shrink;
-use crate::compare::tables::{damage, one_breach, random_room, random_table};
+use crate::compare::tables::{random_room, random_table};
 use crate::model::breach::{first, Kind};
 use crate::model::evidence::{boundary_of_row, check, reduce};
 use crate::model::table::*;

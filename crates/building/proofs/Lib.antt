@@ -4,3 +4,4 @@ pub mod ConeDetermines
 pub mod ConeValid
 pub mod Worked
 pub mod Runs
+pub mod WeldRuns

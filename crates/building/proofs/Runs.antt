@@ -11,6 +11,10 @@ use Rattle.calls.specs.declared.Verdict.the-variants.{Accepted, Refused}
 use Rattle.merge.specs.Merge.{IsIdentification, mergeVerdict, merged, mergeLeaves}
 use Rattle.merge.proofs.Identification.{identification-determines}
 use Rattle.merge.proofs.Answers.{mergeLeaves-valid, merge-accepted-leaves}
+use Rattle.merge.specs.Rename.{renamed}
+use Rattle.weld.specs.Weld.{IsWeld}
+use Rattle.weld.specs.Call.{weldVerdict, welded, weldLeaves}
+use Rattle.weld.proofs.Answers.{weld-exists, welded-is-renamed, weldLeaves-valid}
 use Rattle.cone.specs.Cone.{apexOf, coneOf, coned, coneVerdict, coneLeaves}
 use Rattle.compaction.specs.Made.{newNumber, compacted}
 use Rattle.compaction.specs.Call.{compactLeaves}
@@ -21,8 +25,8 @@ use Rattle.building.proofs.ConedIsCone.{accepted-is-cone}
 use Rattle.building.proofs.ConeDetermines.{rule-gives-coned}
 use Rattle.building.proofs.ConeValid.{coneLeaves-valid}
 use Rattle.building.specs.Runs.{Request, Rule, verdictOn, Step, Run, leftBy, calls, Exactly}
-use Rattle.building.specs.Runs.Request.{coneOver, mergeOf, compaction}
-use Rattle.building.specs.Runs.Rule.{by-cone, by-identification, by-compaction}
+use Rattle.building.specs.Runs.Request.{coneOver, mergeOf, weldOf, compaction}
+use Rattle.building.specs.Runs.Rule.{by-cone, by-identification, by-weld, by-compaction}
 use Rattle.building.specs.Runs.Step.{refused, made}
 use Rattle.building.specs.Runs.Run.{done, more}
 
@@ -32,12 +36,18 @@ use Rattle.building.specs.Runs.Run.{done, more}
 abbrev madeBy : List ℕ → Request → List ℕ
 madeBy t (coneOver marks) = coned t marks
 madeBy t (mergeOf a b) = merged t a b
+madeBy t (weldOf a b) = welded t a b
 madeBy t (compaction list) = compacted t
 
 left-is : (t : List ℕ) (r : Request) → leftBy t r ≡ leaves (verdictOn t r) (madeBy t r) t
 left-is t (coneOver marks) = refl
 left-is t (mergeOf a b) = refl
+left-is t (weldOf a b) = refl
 left-is t (compaction list) = refl
+
+-- an accepted weld leaves the table renamed by every map that is the weld's
+weld-leaves : (t : List ℕ) (a b : ℕ) → weldVerdict t a b ≡ Accepted → (κ : ℕ → ℕ) → IsWeld t a b κ → weldLeaves t a b ≡ renamed κ t
+weld-leaves t a b e κ x = ap (λ (v : Verdict). leaves v (welded t a b) t) e ∙ welded-is-renamed t a b e κ x
 
 -- it is what the rule gives,
 made-by-rule : (t : List ℕ) (r : Request) → verdictOn t r ≡ Accepted → Rule t r (leftBy t r)
@@ -45,6 +55,9 @@ made-by-rule t (coneOver marks) e =
     by-cone (apexOf t) (coneOf t marks)
     (subst (λ (u : List ℕ). IsCone t marks (apexOf t) (coneOf t marks) u) (sym (ap (λ (v : Verdict). leaves v (coned t marks) t) e)) (accepted-is-cone t marks e))
 made-by-rule t (mergeOf a b) e = by-identification (merge-accepted-leaves t a b e)
+made-by-rule t (weldOf a b) e =
+    let w = weld-exists t a b e in
+    by-weld (w .0) (w .1) (weld-leaves t a b e (w .0) (w .1))
 made-by-rule t (compaction list) e = by-compaction (newNumber t) (accepted-leaves t list e)
 
 -- the rule gives nothing else,
@@ -53,6 +66,7 @@ rule-is-made {t} {u} v e (by-cone {marks = marks} apex κ x) =
     rule-gives-coned t marks e apex κ u x .1 ∙ sym (ap (λ (w : Verdict). leaves w (coned t marks) t) e)
 rule-is-made {t} {u} v e (by-identification {a = a} {b = b} x) =
     identification-determines t a b u (mergeLeaves t a b) (v .sized) x (merge-accepted-leaves t a b e)
+rule-is-made {t} {u} v e (by-weld {a = a} {b = b} κ x i) = i ∙ sym (weld-leaves t a b e κ x)
 rule-is-made {t} {u} v e (by-compaction {list = list} ν x) =
     one-compaction t ν (newNumber t) u (compactLeaves t list) x (accepted-leaves t list e) (v .sized)
 
@@ -60,6 +74,7 @@ rule-is-made {t} {u} v e (by-compaction {list = list} ν x) =
 pub call-keeps-valid : (t : List ℕ) (r : Request) → Valid t → Valid (leftBy t r)
 call-keeps-valid t (coneOver marks) v = coneLeaves-valid t marks v
 call-keeps-valid t (mergeOf a b) v = mergeLeaves-valid t a b v
+call-keeps-valid t (weldOf a b) v = weldLeaves-valid t a b v
 call-keeps-valid t (compaction list) v = compactLeaves-valid t list v
 
 -- ---- one step, whatever the call

@@ -53,7 +53,7 @@ pub each-case-holds : Each Holds cases
 each-case-holds = each-passing-holds each-case-passes
 
 -- what each entry of a list has, the one at place k has
-each-at : {A : Type 0} {P : A → Type 0} {xs : List A} → Each P xs → (k : ℕ) → k < length xs → (d : A) → P (getD xs k d)
+each-at : {A : Type 0} {P : A → Type 1} {xs : List A} → Each P xs → (k : ℕ) → k < length xs → (d : A) → P (getD xs k d)
 each-at end k l d = absurd (omega arith)
 each-at (h then rest) zero l d = h
 each-at (h then rest) (suc k) l d = each-at rest k (omega arith) d

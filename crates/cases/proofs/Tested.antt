@@ -34,6 +34,7 @@ use Rattle.cases.specs.Cases.Asked.{nothing, call}
 use Rattle.cases.specs.Cases.Counts.{unnamed, seven}
 use Rattle.cases.specs.Claims.{Each, answerTo, Leads, IncidenceIs, ReducedWith, Holds}
 use Rattle.cases.specs.Claims.Each.{end, _then_}
+use Rattle.cases.specs.Claims.Leads.{as-it-was, by-call}
 use Rattle.cases.proofs.Compared.{sameWords, same-words, isSum, is-sum, sameAnswer, same-answer}
 
 -- ---- the test
@@ -86,14 +87,15 @@ goes-to t r a u e = same-words (leftBy t r) u (and-right (sameAnswer (answerTo t
 
 goes-leads : (t : List ℕ) (q : Asked) (u : List ℕ) → Valid t → goes t q u ≡ true → Leads t q u
 unfolding goes
-goes-leads t nothing u v e = same-words t u e
+goes-leads t nothing u v e = as-it-was (same-words t u e)
 goes-leads t (call r a) u v e =
     let to : leftBy t r ≡ u = goes-to t r a u e in
-    record {
+    by-call
+    (record {
       answer = same-answer (answerTo t r) a (and-left (sameAnswer (answerTo t r) a) (sameWords (leftBy t r) u) e);
       step = subst (Step t r) to (call-is-step t r);
       only = λ x s. step-is-call v s ∙ to;
-    }
+    })
 
 goes-valid : (t : List ℕ) (q : Asked) (u : List ℕ) → Valid t → goes t q u ≡ true → Valid u
 unfolding goes

@@ -27,7 +27,8 @@ use Rattle.audit.specs.Audit.{sound, invalid, auditGrounds, groundsWith}
 use Rattle.audit.specs.First.{Tells}
 use Rattle.audit.proofs.Naming.{Own, tells-alone, tells-with, unsound-names-first, named-fits}
 use Rattle.complex.specs.Cells.{cells}
-use Rattle.merge.specs.Merge.{pairGrounds, mergeVerdict}
+use Rattle.merge.specs.Merge.{pairGrounds as mergePair, mergeVerdict}
+use Rattle.weld.specs.Call.{pairGrounds, weldVerdict}
 use Rattle.compaction.specs.Call.{compactVerdict}
 use Rattle.cone.specs.Cone.{marksFit, markGrounds, noRoom, coneVerdict}
 use Rattle.reading.specs.Incidence.{cellGrounds, incidenceGrounds}
@@ -50,7 +51,11 @@ tells-audit t r e = tells-alone t [] r tt e
 pub tells-merge : (t : List ℕ) (a b : ℕ) (r : Refusal) → mergeVerdict t a b ≡ Refused r → Tells t r
 unfolding mergeVerdict
 tells-merge t a b r e =
-    tells-alone t (pairGrounds t a b) r (plain (omega arith), (plain (omega arith), (plain (omega arith), (plain (omega arith), tt)))) e
+    tells-alone t (mergePair t a b) r (plain (omega arith), (plain (omega arith), (plain (omega arith), (plain (omega arith), tt)))) e
+
+pub tells-weld : (t : List ℕ) (a b : ℕ) (r : Refusal) → weldVerdict t a b ≡ Refused r → Tells t r
+unfolding weldVerdict
+tells-weld t a b r e = tells-alone t (pairGrounds t a b) r (plain (omega arith), (plain (omega arith), (plain (omega arith), tt))) e
 
 pub tells-compact : (t list : List ℕ) (r : Refusal) → compactVerdict t list ≡ Refused r → Tells t r
 unfolding compactVerdict

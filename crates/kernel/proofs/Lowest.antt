@@ -15,6 +15,7 @@ use Rattle.table.specs.Table.{onLength}
 use Rattle.audit.specs.Audit.{auditGrounds}
 use Rattle.audit.specs.Empty.{emptyVerdict}
 use Rattle.merge.specs.Merge.{mergeGrounds, mergeVerdict}
+use Rattle.weld.specs.Call.{weldGrounds, weldVerdict}
 use Rattle.cone.specs.Cone.{coneGrounds, coneVerdict}
 use Rattle.compaction.specs.Call.{compactGrounds, compactVerdict}
 use Rattle.reading.specs.Incidence.{incidenceGrounds}
@@ -37,6 +38,11 @@ pub lowest-merge : (t : List ℕ) (a b : ℕ) (r : Refusal) → mergeVerdict t a
 unfolding mergeVerdict
 lowest-merge t a b r e =
     lowest-applies 0 (mergeGrounds t a b) r (omega arith, (omega arith, (omega arith, (omega arith, (omega arith, (omega arith, tt)))))) e
+
+pub lowest-weld : (t : List ℕ) (a b : ℕ) (r : Refusal) → weldVerdict t a b ≡ Refused r → Lowest (weldGrounds t a b) r
+unfolding weldVerdict
+lowest-weld t a b r e =
+    lowest-applies 0 (weldGrounds t a b) r (omega arith, (omega arith, (omega arith, (omega arith, (omega arith, tt))))) e
 
 pub lowest-compact : (t list : List ℕ) (r : Refusal) → compactVerdict t list ≡ Refused r → Lowest (compactGrounds t list) r
 unfolding compactVerdict

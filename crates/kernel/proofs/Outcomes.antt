@@ -13,7 +13,7 @@ use Rattle.reducer.specs.declared.Reduced.{Reduced}
 use Rattle.reducer.specs.Reduce.{Reduces, Reduction, reduceVerdict}
 use Rattle.reducer.proofs.OneOutcome.{one-reduction}
 use Rattle.kernel.specs.Face.{Fills}
-use Rattle.kernel.specs.Calls.{EmptyEnds, AuditEnds, ConeEnds, MergeEnds, CompactEnds, IncidenceEnds, BoundaryEnds, CornerEnds, SheetEnds, ReduceEnds, CheckEnds, WriteEnds, ReadEnds}
+use Rattle.kernel.specs.Calls.{EmptyEnds, AuditEnds, ConeEnds, MergeEnds, WeldEnds, CompactEnds, IncidenceEnds, BoundaryEnds, CornerEnds, SheetEnds, ReduceEnds, CheckEnds, WriteEnds, ReadEnds}
 
 -- a call that leaves a buffer and a value
 one-filling : {code value r r′ v v′ : ℕ} {left l l′ : List ℕ} → Fills code left value r l v → Fills code left value r′ l′ v′ → (r ≡ r′) × (l ≡ l′) × (v ≡ v′)
@@ -30,6 +30,9 @@ one-cone t m l l′ a r r′ v v′ p q = one-filling p q
 
 pub one-merge : (t l l′ : List ℕ) (a b k r r′ v v′ : ℕ) → MergeEnds t a b k r l v → MergeEnds t a b k r′ l′ v′ → (r ≡ r′) × (l ≡ l′) × (v ≡ v′)
 one-merge t l l′ a b k r r′ v v′ p q = one-filling p q
+
+pub one-weld : (t l l′ : List ℕ) (a b k r r′ v v′ : ℕ) → WeldEnds t a b k r l v → WeldEnds t a b k r′ l′ v′ → (r ≡ r′) × (l ≡ l′) × (v ≡ v′)
+one-weld t l l′ a b k r r′ v v′ p q = one-filling p q
 
 pub one-compact : (t i l l′ j j′ : List ℕ) (r r′ : ℕ) → CompactEnds t i r l j → CompactEnds t i r′ l′ j′ → (r ≡ r′) × (l ≡ l′) × (j ≡ j′)
 one-compact t i l l′ j j′ r r′ p q = (p .answer ∙ sym (q .answer), p .table ∙ sym (q .table), p .numbers ∙ sym (q .numbers))

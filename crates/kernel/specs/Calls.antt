@@ -15,6 +15,7 @@ use Rattle.audit.specs.Audit.{auditGrounds}
 use Rattle.audit.specs.Empty.{emptyVerdict, emptyLeaves}
 use Rattle.complex.specs.Cells.{cells}
 use Rattle.merge.specs.Merge.{mergeAnswer, mergeLeaves}
+use Rattle.weld.specs.Call.{weldAnswer, weldLeaves}
 use Rattle.cone.specs.Cone.{coneAnswer, coneLeaves}
 use Rattle.compaction.specs.Call.{compactVerdict, compactLeaves, compactLists}
 use Rattle.reading.specs.Incidence.{incidenceAnswer}
@@ -41,6 +42,10 @@ ConeEnds t marks apex₀ r t′ apex =
 abbrev pub MergeEnds : List ℕ → ℕ → ℕ → ℕ → ℕ → List ℕ → ℕ → Type 0
 MergeEnds t a b kept₀ r t′ kept =
     Fills (namedCode (mergeAnswer t a b)) (mergeLeaves t a b) (namedValue (mergeAnswer t a b) kept₀) r t′ kept
+
+abbrev pub WeldEnds : List ℕ → ℕ → ℕ → ℕ → ℕ → List ℕ → ℕ → Type 0
+WeldEnds t a b kept₀ r t′ kept =
+    Fills (namedCode (weldAnswer t a b)) (weldLeaves t a b) (namedValue (weldAnswer t a b) kept₀) r t′ kept
 
 -- a compaction: the table and the list
 pub record CompactEnds (t list : List ℕ) (r : ℕ) (t′ list′ : List ℕ) : Type 0 where

@@ -3,7 +3,7 @@
 ghost use mathlib.Core.Path.{_≡_};
 ghost use Rattle.calls.specs.Calls.{Ends};
 ghost use Rattle.kernel.specs.Face.{code, namedCode, namedValue};
-ghost use Rattle.kernel.specs.Calls.{EmptyEnds, AuditEnds, ConeEnds, MergeEnds, CompactEnds, IncidenceEnds, BoundaryEnds, CornerEnds, SheetEnds, ReduceEnds, CheckEnds, WriteEnds, ReadEnds};
+ghost use Rattle.kernel.specs.Calls.{EmptyEnds, AuditEnds, ConeEnds, MergeEnds, WeldEnds, CompactEnds, IncidenceEnds, BoundaryEnds, CornerEnds, SheetEnds, ReduceEnds, CheckEnds, WriteEnds, ReadEnds};
 use calls::Named;
 use calls::Verdict;
 use reading::Sum;
@@ -59,6 +59,13 @@ pub extern "C" fn bt_merge(table: &mut [u16], a: u16, b: u16, kept: &mut u16) ->
     ensures { λ r. ⌜ MergeEnds (now (table .entry)) a b (now (kept .entry)) r (now (table .exit)) (now (kept .exit)) ⌝ }
 {
     name_cell(merge::merge(table, a, b), kept)
+}
+
+#[no_mangle]
+pub extern "C" fn bt_weld(table: &mut [u16], a: u16, b: u16, kept: &mut u16) -> u32
+    ensures { λ r. ⌜ WeldEnds (now (table .entry)) a b (now (kept .entry)) r (now (table .exit)) (now (kept .exit)) ⌝ }
+{
+    name_cell(weld::weld(table, a, b), kept)
 }
 
 #[no_mangle]

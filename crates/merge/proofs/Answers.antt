@@ -26,7 +26,7 @@ use Rattle.merge.proofs.Verdicts.{merge-accepted}
 use Rattle.merge.proofs.Identification.{merged-is-identification}
 use Rattle.merge.proofs.Keeping.{merged-keeps-valid}
 
-eqb-both-ways : (m n : ℕ) → eqb m n ≡ eqb n m
+pub eqb-both-ways : (m n : ℕ) → eqb m n ≡ eqb n m
 eqb-both-ways m n =
     ⊎-elim
     (λ e. eq-eqb m n e ∙ sym (eq-eqb n m (sym e)))

@@ -1,6 +1,7 @@
 pub mod Renaming
 pub mod Passes
 pub mod Pairs
+pub mod Identifying
 pub mod Identification
 pub mod Keeping
 pub mod Verdicts

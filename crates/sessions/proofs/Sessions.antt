@@ -1,5 +1,5 @@
--- Demand 2 for a session, from the emptied table and from an accepted sketch: what any run of cone, merge and compaction calls leaves,
--- refused ones included, is exactly what the published rules give, renumbered where a compaction was called, and it is a semi-simplicial set.
+-- Demand 2 for a session, from the emptied table and from an accepted sketch: what any run of cone, merge, weld and compaction calls
+-- leaves, refused ones included, is exactly what the published rules give, renumbered where a compaction was called, and it is a semi-simplicial set.
 -- What carries it: emptying and an accepted file leave a valid table, and runs keep it so. Assumes nothing.
 use mathlib.Core.Path.{_≡_, sym, ap, subst}
 use mathlib.Core.Bool.{true}

@@ -3,6 +3,7 @@
 mod breach;
 mod compaction;
 mod measured;
+mod weld;
 
 use crate::call::{taken_apart, Call, Case, Outcome, Run};
 use crate::model::table::{mark_words, Cell, Table, DIMENSIONS, RECORD};
@@ -107,7 +108,7 @@ pub type Titled = (&'static str, fn(Run) -> Verdict);
 
 /// All cases.
 pub fn titled() -> Vec<Titled> {
-    [measured::ALL, breach::ALL, compaction::ALL].concat()
+    [measured::ALL, breach::ALL, compaction::ALL, weld::ALL].concat()
 }
 
 /// Runs all cases with each of the named runs; one line for each case. Answers whether all held.

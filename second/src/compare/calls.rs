@@ -12,7 +12,7 @@ use crate::random::Random;
 /// A random call on the table, which may be damaged; now and then a buffer has a wrong length.
 pub fn random_case(random: &mut Random, words: &[u16]) -> Case {
     let table = Table::decode(words).ok();
-    let place = random.pick(&[0, 1, 2, 2, 3, 3, 4, 4, 5, 5, 5, 6, 6, 7, 7, 8, 9, 9, 9, 10, 11, 11, 11, 12]);
+    let place = random.pick(&[0, 1, 2, 2, 3, 3, 4, 4, 5, 5, 5, 6, 6, 7, 7, 8, 9, 9, 9, 10, 11, 11, 11, 12, 13, 13]);
     let call = random_call(random, words, table.as_ref(), place);
     let mut case = Case { table: words.to_vec(), call };
     if let Call::Read { file } = &case.call {
@@ -66,7 +66,8 @@ pub fn random_call(random: &mut Random, words: &[u16], table: Option<&Table>, pl
             let room = if random.once_in(2) { room } else { other };
             Call::Read { file: random_file(random, room) }
         }
-        _ => Call::Compact { list: (0..room).map(|_| random.word()).collect() },
+        12 => Call::Compact { list: (0..room).map(|_| random.word()).collect() },
+        _ => weld(random, room, table),
     }
 }
 
@@ -134,6 +135,19 @@ fn merge(random: &mut Random, room: usize, table: Option<&Table>) -> Call {
         (a, b) = mergeable(random, table).unwrap_or((a, b));
     }
     Call::Merge { a, b }
+}
+
+/// Two cells of one dimension, mostly, whether their faces are equal or not.
+fn weld(random: &mut Random, room: usize, table: Option<&Table>) -> Call {
+    let (a, mut b) = (named(random, room, table), named(random, room, table));
+    if random.once_in(20) {
+        b = a;
+    }
+    if let Some(table) = table.filter(|_| !random.once_in(5)) {
+        let alike: Vec<u16> = (0..room as u16).filter(|n| *n != a && same_dimension(table, a, *n)).collect();
+        b = if alike.is_empty() { b } else { random.pick(&alike) };
+    }
+    Call::Weld { a, b }
 }
 
 fn incidence(random: &mut Random, room: usize, table: Option<&Table>) -> Call {

@@ -1,6 +1,7 @@
 //! Random sketch files, good and damaged, for the reader and for the program.
 
-use super::tables::{damage, one_breach, random_table};
+use super::broken::{damage, one_breach};
+use super::tables::random_table;
 use crate::model::sketch::{file_of, CONTENTS, LONGEST};
 use crate::model::table::*;
 use crate::random::Random;

@@ -4,6 +4,7 @@ use super::runs::{shown, Comparison, Difference};
 use crate::call::{Call, Case, Outcome};
 use crate::model::ranks;
 use crate::model::table::*;
+use crate::model::weld::kept_numbers;
 use crate::random::Random;
 
 fn hold(case: &Case, holds: bool, what: &str) -> Result<(), Difference> {
@@ -28,9 +29,12 @@ impl Comparison {
             Call::Empty | Call::Cone { .. } => self.stays_valid(case, outcome),
             Call::Merge { a, b } => {
                 self.stays_valid(case, outcome)?;
-                let other = self.call(&Case { table: case.table.clone(), call: Call::Merge { a: *b, b: *a } })?;
-                let same = other.values == outcome.values && other.after.table == outcome.after.table;
-                hold(case, same, "a merge is the same for both orders")
+                self.other_order(case, outcome, Call::Merge { a: *b, b: *a })
+            }
+            Call::Weld { a, b } => {
+                self.stays_valid(case, outcome)?;
+                self.other_order(case, outcome, Call::Weld { a: *b, b: *a })?;
+                self.single_merges(case, outcome, *a, *b)
             }
             Call::Incidence { .. } => hold(case, (-3..=4).contains(&outcome.values[0]), "incidence lies from -3 to 4"),
             Call::Boundary { dimension, .. } if *dimension >= 1 => self.boundary_twice(case, outcome),
@@ -57,6 +61,30 @@ impl Comparison {
     fn stays_valid(&mut self, case: &Case, outcome: &Outcome) -> Result<(), Difference> {
         let audit = self.call(&Case { table: outcome.after.table.clone(), call: Call::Audit })?;
         hold(case, audit.word == 0, "what is left is valid")
+    }
+
+    /// A merge or a weld asked for in the other order: "the answer is the kept number, the same for both orders of asking".
+    fn other_order(&mut self, case: &Case, outcome: &Outcome, call: Call) -> Result<(), Difference> {
+        let other = self.call(&Case { table: case.table.clone(), call })?;
+        let same = other.values == outcome.values && other.after.table == outcome.after.table;
+        hold(case, same, "both orders give the same")
+    }
+
+    /// "Single merges from dimension 0 upward give the same table": each joined cell with its class's number, rising.
+    fn single_merges(&mut self, case: &Case, outcome: &Outcome, a: u16, b: u16) -> Result<(), Difference> {
+        let old = Table::decode(&case.table).expect("a valid table");
+        let kept = kept_numbers(&old, a, b);
+        let mut joined: Vec<(usize, u16)> = old.live().map(|(number, cell)| (cell.dimension, number)).collect();
+        joined.retain(|(_, number)| kept.get(number).is_some_and(|kept| kept != number));
+        joined.sort();
+        let mut table = case.table.clone();
+        for (_, number) in joined {
+            let (a, b) = (kept[&number], number);
+            let merged = self.call(&Case { table, call: Call::Merge { a, b } })?;
+            hold(case, merged.word == 0, &format!("the single merge of {a} and {b} is accepted"))?;
+            table = merged.after.table;
+        }
+        hold(case, table == outcome.after.table, "the single merges give the same table")
     }
 
     /// "A second run changes no table word": its list leaves every number as it is.

@@ -1,8 +1,9 @@
 //! The driver of the comparison: building sessions, random tables, damaged tables.
 
+use super::broken::{damage, one_breach};
 use super::calls::{random_call, random_case};
 use super::shrink::shrink;
-use super::tables::{damage, one_breach, random_room, random_table};
+use super::tables::{random_room, random_table};
 use super::tally::Tally;
 use crate::call::{by_model, described, taken_apart, Call, Case, Outcome, Run, NAMES};
 use crate::model::table::*;
@@ -58,7 +59,7 @@ impl Comparison {
         }
     }
 
-    /// A table from its emptying, or now and then a random one, through cones, merges and compactions, with calls of all kinds between them.
+    /// A table from its emptying, or now and then a random one, through cones, merges, welds and compactions, with calls of all kinds between them.
     fn session(&mut self, random: &mut Random, room: usize) -> Result<(), Difference> {
         let old = (0..room * RECORD).map(|_| random.word()).collect();
         let mut table = self.call_and_follow(&Case { table: old, call: Call::Empty })?.after.table;
@@ -66,7 +67,7 @@ impl Comparison {
             table = random_table(random, room);
         }
         for _ in 0..random.between(3, 30) {
-            let place = random.pick(&[2, 2, 2, 2, 3, 3, 12]);
+            let place = random.pick(&[2, 2, 2, 2, 3, 3, 12, 13, 13]);
             let decoded = Table::decode(&table).ok();
             let call = random_call(random, &table, decoded.as_ref(), place);
             let outcome = self.call_and_follow(&Case { table, call })?;
@@ -83,7 +84,8 @@ impl Comparison {
         for _ in 0..count {
             let case = random_case(random, &table);
             let outcome = self.call_and_follow(&case)?;
-            let building = matches!(case.call, Call::Cone { .. } | Call::Merge { .. } | Call::Compact { .. });
+            let building =
+                matches!(case.call, Call::Cone { .. } | Call::Merge { .. } | Call::Compact { .. } | Call::Weld { .. });
             if building && case.table.len() == table.len() {
                 table = outcome.after.table;
             }

@@ -1,4 +1,4 @@
-//! Random tables: built by calls of the model, written by hand, or damaged.
+//! Random valid tables: built by calls of the model, or written by hand.
 
 use crate::model::building;
 use crate::model::table::*;
@@ -26,14 +26,15 @@ pub fn random_room(random: &mut Random, most: usize) -> usize {
 
 /// A random valid table of that N.
 pub fn random_table(random: &mut Random, room: usize) -> Vec<u16> {
-    let mut words = match random.below(5) {
+    let mut words = match random.below(6) {
         0 => tower(random, room),
         1 => by_cones(random, room),
         2 => simplex(random, room),
+        3 => simplices(random, room),
         _ => by_hand(random, room),
     };
     for _ in 0..random.below(3) {
-        weld(random, &mut words);
+        merge_two(random, &mut words);
     }
     words
 }
@@ -94,14 +95,14 @@ pub fn reordered(random: &mut Random, table: &Table) -> Option<(u16, u16)> {
 }
 
 /// One accepted merge, where there is one.
-pub fn weld(random: &mut Random, words: &mut [u16]) {
+pub fn merge_two(random: &mut Random, words: &mut [u16]) {
     let table = Table::decode(words).expect("a valid table");
     if let Some((a, b)) = mergeable(random, &table) {
         building::merge(words, a, b).expect("equal faces");
     }
 }
 
-/// Cones over random closed sets, with welds between them.
+/// Cones over random closed sets, with merges between them.
 fn by_cones(random: &mut Random, room: usize) -> Vec<u16> {
     let mut words = vec![FREE; room * RECORD];
     for _ in 0..random.between(1, 12) {
@@ -109,7 +110,7 @@ fn by_cones(random: &mut Random, room: usize) -> Vec<u16> {
         let marks = marks_of(&closed_set(random, &table, 3), room);
         let _ = building::cone(&mut words, &marks);
         if random.once_in(2) {
-            weld(random, &mut words);
+            merge_two(random, &mut words);
         }
     }
     words
@@ -121,19 +122,36 @@ fn simplex(random: &mut Random, room: usize) -> Vec<u16> {
     let largest = (0..=TOP).take_while(|p| (2 << p) - 1 <= room).count();
     let corners = if random.once_in(3) { random.between(0, largest) } else { largest };
     let number = numbers(random, room);
-    // Bit i of `set` says that corner i belongs to the cell; face j leaves out the cell's corner j.
     let whole = if random.once_in(3) { (1 << corners) - 1 } else { 1 << corners };
+    put_simplex(&mut table, &number, corners, whole);
+    table.encode()
+}
+
+/// Two or three simplices with no cell in common, of one size as far as they fit: welds join them side by side.
+fn simplices(random: &mut Random, room: usize) -> Vec<u16> {
+    let mut table = Table { cells: vec![None; room] };
+    let count = random.between(2, 3);
+    let corners = random.between(0, (0..=TOP).take_while(|p| count * ((2 << p) - 1) <= room).count());
+    let number = numbers(random, room);
+    for own in number.chunks((1 << corners) - 1 + usize::from(corners == 0)).take(count) {
+        put_simplex(&mut table, own, corners, 1 << corners);
+    }
+    table.encode()
+}
+
+/// The subsets of the corners below `whole` as cells. Bit i of `set` says that corner i belongs to the cell, face j leaves out
+/// the cell's corner j.
+fn put_simplex(table: &mut Table, number: &[u16], corners: usize, whole: usize) {
     for set in 1..whole {
         let members: Vec<usize> = (0..corners).filter(|i| set >> i & 1 == 1).collect();
         let dimension = members.len() - 1;
         let faces = (0..face_count(dimension)).map(|j| number[(set & !(1 << members[j])) - 1]).collect();
         table.cells[number[set - 1] as usize] = Some(Cell { dimension, faces });
     }
-    table.encode()
 }
 
 /// The numbers from 0 to N − 1, rising or in any order.
-fn numbers(random: &mut Random, room: usize) -> Vec<u16> {
+pub fn numbers(random: &mut Random, room: usize) -> Vec<u16> {
     let mut numbers: Vec<u16> = (0..room as u16).collect();
     if !random.once_in(3) {
         random.shuffle(&mut numbers);
@@ -220,76 +238,4 @@ fn fill(random: &mut Random, table: &Table, below: &[u16], p: usize, faces: &mut
         faces.pop();
     }
     false
-}
-
-/// A table in which everything holds but the law of one cell at one pair of places; of any contents where N is too small.
-pub fn one_breach(random: &mut Random, room: usize) -> Vec<u16> {
-    let number = numbers(random, room);
-    let p = random.between(2, TOP);
-    if room < p + 3 {
-        return vec![0; room * RECORD];
-    }
-    let mut table = Table { cells: vec![None; room] };
-    let mut put = |place: usize, dimension: usize, faces: Vec<u16>| {
-        table.cells[number[place] as usize] = Some(Cell { dimension, faces });
-    };
-    // Below dimension p − 2 one cell in each dimension, at places 0 to p − 3 of the numbers; each face is the cell below.
-    for dimension in 0..p - 2 {
-        put(dimension, dimension, vec![number[dimension.max(1) - 1]; face_count(dimension)]);
-    }
-    // Two cells v and w with equal faces; t has v everywhere, u has w at one place; the breaching cell has u at one place.
-    let below = number[p.max(3) - 3];
-    let (v, w, t, u) = (p - 2, p - 1, p, p + 1);
-    put(v, p - 2, vec![below; face_count(p - 2)]);
-    put(w, p - 2, vec![below; face_count(p - 2)]);
-    let mut faces = vec![number[v]; p];
-    put(t, p - 1, faces.clone());
-    faces[random.below(p)] = number[w];
-    put(u, p - 1, faces);
-    let mut faces = vec![number[t]; p + 1];
-    faces[random.below(p + 1)] = number[u];
-    put(p + 2, p, faces);
-    table.encode()
-}
-
-/// Replaces a face by another cell of the same dimension, so that at most the law is broken.
-fn other_face(random: &mut Random, words: &mut [u16], record: usize) {
-    let dimension = words[record * RECORD];
-    if dimension == 0 || dimension > TOP as u16 {
-        return;
-    }
-    let records = 0..words.len() / RECORD;
-    let below: Vec<usize> = records.filter(|other| words[other * RECORD] == dimension - 1).collect();
-    if !below.is_empty() {
-        words[record * RECORD + random.between(1, dimension as usize + 1)] = random.pick(&below) as u16;
-    }
-}
-
-/// Damages a table in one to three places; now and then it stays valid.
-pub fn damage(random: &mut Random, words: &mut [u16]) {
-    let room = words.len() / RECORD;
-    for _ in 0..random.between(1, 3) {
-        // A record in use is hit more often than a free one.
-        let mut record = random.below(room);
-        for _ in 0..8 {
-            if words[record * RECORD] == FREE {
-                record = random.below(room);
-            }
-        }
-        let at = record * RECORD + random.below(RECORD);
-        match random.below(12) {
-            9.. => other_face(random, words, record),
-            0 => words[at] = FREE,
-            1 | 2 => words[at] = random.below(room) as u16,
-            3 => words[at] = random.below(RECORD + 1) as u16,
-            4 => words[at] = random.word(),
-            5 => words[at] = room as u16,
-            6 => words[record * RECORD..][..RECORD].fill(FREE),
-            7 => {
-                let from = random.below(room) * RECORD;
-                words.copy_within(from..from + RECORD, record * RECORD);
-            }
-            8 => words.swap(at, record * RECORD + random.below(RECORD)),
-        }
-    }
 }

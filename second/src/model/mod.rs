@@ -11,3 +11,4 @@ pub mod ranks;
 pub mod reading;
 pub mod sketch;
 pub mod table;
+pub mod weld;

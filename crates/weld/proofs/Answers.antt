@@ -1,0 +1,126 @@
+-- What an accepted weld has been shown, the ways out of the call, and what it leaves: the table of the one weld's map, which is valid
+-- and is what the single merges leave.
+-- What carries it: the grounds are read one after the other. Assumes nothing.
+use mathlib.Core.Path.{_≡_, refl, ap, sym, subst, _∙_}
+use mathlib.Core.Bool.{true, false, _&&_}
+use mathlib.Core.List.{List}
+use Prim.Native.Nat.{ℕ, min}
+use borrow.Author.Tests.{eq-eqb, ne-eqb, eqb-true, eqb-false, not-false}
+use lib.Dec.{eqb}
+use Rattle.counting.proofs.Cases.{and-left, and-right}
+use Rattle.table.specs.Table.{dim, live, Valid, sized}
+use Rattle.audit.specs.Audit.{sound, auditGrounds}
+use Rattle.calls.specs.Calls.{verdict, named, leaves, Ends}
+use Rattle.calls.specs.declared.Refusal.{Refusal}
+use Rattle.calls.specs.declared.Refusal.the-variants.{NotLive, SameCell, DimensionsDiffer}
+use Rattle.calls.specs.declared.Verdict.{Verdict}
+use Rattle.calls.specs.declared.Verdict.the-variants.{Accepted, Refused}
+use Rattle.calls.specs.declared.Named.the-variants.{Cell, NoCell}
+use Rattle.calls.proofs.Grounds.{accepted-none-applies, accepted-first, refused-first}
+use Rattle.table.proofs.Records.{live-true, live-says}
+use Rattle.audit.proofs.Valid.{sound-is-valid, valid-is-sound, valid-is-sized}
+use Rattle.merge.specs.Rename.{renamed}
+use Rattle.weld.specs.Weld.{IsWeld}
+use Rattle.weld.specs.Joins.{weldMap}
+use Rattle.weld.specs.Maps.{Weldable}
+use Rattle.weld.specs.Merges.{Merges, weldMerges}
+use Rattle.weld.specs.Call.{pairGrounds, weldGrounds, weldVerdict, welded, weldAnswer, weldLeaves}
+use Rattle.weld.proofs.Welds.{weldMap-is-weld, weld-keeps-valid, one-welded-table}
+use Rattle.weld.proofs.Single.{weld-by-merges}
+
+module _ (t : List ℕ) (a b : ℕ) where
+  pub weld-accepted : weldVerdict t a b ≡ Accepted → Weldable t a b
+  unfolding weldVerdict
+  weld-accepted e =
+      let k = accepted-none-applies (weldGrounds t a b) e in
+      let both : (live t a && live t b) ≡ true = not-false (live t a && live t b) (k .1 .1 .0) in
+      record {
+        valid = sound-is-valid t (not-false (sized t) (k .0)) (not-false (sound t) (k .1 .0));
+        first = live-true t a (and-left (live t a) (live t b) both);
+        second = live-true t b (and-right (live t a) (live t b) both);
+        different = eqb-false a b (k .1 .1 .1 .0);
+        same-dim = eqb-true (dim t a) (dim t b) (not-false (eqb (dim t a) (dim t b)) (k .1 .1 .1 .1 .0));
+      }
+
+  -- any two different live cells of one dimension in a valid table: their faces are not asked for
+  pub weldable-accepted : Weldable t a b → weldVerdict t a b ≡ Accepted
+  unfolding weldVerdict
+  weldable-accepted m =
+      let lives = live-says t a (m .first) in
+      let lives-too = live-says t b (m .second) in
+      let apart = ne-eqb a b (m .different) in
+      let level = eq-eqb (dim t a) (dim t b) (m .same-dim) in
+      simp (valid-is-sized t (m .valid), valid-is-sound t (m .valid), lives, lives-too, apart, level)
+
+  -- what the two cells say, way by way out of the code
+  pub first-not-live : live t a ≡ false → Refused NotLive ≡ verdict (pairGrounds t a b)
+  first-not-live e = simp e
+
+  pub second-not-live : live t a ≡ true → live t b ≡ false → Refused NotLive ≡ verdict (pairGrounds t a b)
+  second-not-live e f = simp (e, f)
+
+  module _ (e : live t a ≡ true) (f : live t b ≡ true) where
+    pub one-cell-twice : a ≡ b → Refused SameCell ≡ verdict (pairGrounds t a b)
+    one-cell-twice s = simp (e, f, eq-eqb a b s)
+
+    pub dimensions-differ : (a ≡ b → ⊥) → (dim t a ≡ dim t b → ⊥) → Refused DimensionsDiffer ≡ verdict (pairGrounds t a b)
+    dimensions-differ s d = simp (e, f, ne-eqb a b s, ne-eqb (dim t a) (dim t b) d)
+
+    pub nothing-against : (a ≡ b → ⊥) → dim t a ≡ dim t b → Accepted ≡ verdict (pairGrounds t a b)
+    nothing-against s d = simp (e, f, ne-eqb a b s, eq-eqb (dim t a) (dim t b) d)
+
+  -- where the audit refuses its refusal stands, else the pair decides
+  pub invalid-refuses : (r : Refusal) → verdict (auditGrounds t) ≡ Refused r → weldVerdict t a b ≡ Refused r
+  unfolding weldVerdict
+  invalid-refuses = refused-first (auditGrounds t) (pairGrounds t a b)
+
+  pub valid-then-pair : verdict (auditGrounds t) ≡ Accepted → weldVerdict t a b ≡ verdict (pairGrounds t a b)
+  unfolding weldVerdict
+  valid-then-pair = accepted-first (auditGrounds t) (pairGrounds t a b)
+
+  -- the ways out of the call
+  pub ends-refused : (r : Refusal) → weldVerdict t a b ≡ Refused r → Ends (weldAnswer t a b) (weldLeaves t a b) (NoCell r) t
+  ends-refused r e =
+      record { answer = sym (ap (λ v. named v (min a b)) e); left = sym (ap (λ v. leaves v (welded t a b) t) e) }
+
+  pub ends-accepted :
+      (c : ℕ) (u : List ℕ) → weldVerdict t a b ≡ Accepted → c ≡ min a b → u ≡ renamed (weldMap t a b) t →
+      Ends (weldAnswer t a b) (weldLeaves t a b) (Cell c) u
+  unfolding welded
+  ends-accepted c u e m f =
+      record {
+        answer = ap Cell m ∙ sym (ap (λ v. named v (min a b)) e);
+        left = f ∙ sym (ap (λ v. leaves v (renamed (weldMap t a b) t) t) e);
+      }
+
+  module _ (e : weldVerdict t a b ≡ Accepted) where
+    -- the map is the weld's
+    accepted-weld : IsWeld t a b (weldMap t a b)
+    accepted-weld = let m = weld-accepted e in weldMap-is-weld t a b (m .valid) (m .first) (m .second) (m .same-dim)
+
+    -- there is a map of the weld,
+    pub weld-exists : (κ : ℕ → ℕ) × IsWeld t a b κ
+    weld-exists = (weldMap t a b, accepted-weld)
+
+    -- what is left is the table renamed by it, and by every map that is the weld's,
+    pub welded-is-renamed : (κ : ℕ → ℕ) → IsWeld t a b κ → welded t a b ≡ renamed κ t
+    unfolding welded
+    welded-is-renamed κ x = one-welded-table t a b (weldMap t a b) κ accepted-weld x
+
+    -- is valid,
+    pub welded-is-valid : Valid (welded t a b)
+    unfolding welded
+    welded-is-valid = weld-keeps-valid t a b (weldMap t a b) (weld-accepted e .valid) accepted-weld
+
+    -- and is what single merges leave, from dimension 0 up, rising cell, each accepted in turn
+    pub welded-by-merges : (κ : ℕ → ℕ) → IsWeld t a b κ → Merges t (weldMerges t κ) (welded t a b)
+    welded-by-merges κ x =
+        subst (Merges t (weldMerges t κ)) (sym (welded-is-renamed κ x)) (weld-by-merges t a b κ (weld-accepted e .valid) x)
+
+  -- whatever the two numbers are
+  pub weldLeaves-valid : Valid t → Valid (weldLeaves t a b)
+  weldLeaves-valid valid = go (weldVerdict t a b) refl
+    where
+      go : (v : Verdict) → weldVerdict t a b ≡ v → Valid (leaves v (welded t a b) t)
+      go Accepted e = welded-is-valid e
+      go (Refused r) e = valid

@@ -1,0 +1,11 @@
+pub mod Sending
+pub mod Joining
+pub mod Passing
+pub mod Writing
+pub mod Levels
+pub mod Welds
+pub mod Single
+pub mod Answers
+pub mod EqualFaces
+pub mod Worked
+pub mod BothWays

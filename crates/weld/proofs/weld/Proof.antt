@@ -1,0 +1,65 @@
+-- `weld::weld` meets its contract: a refusal leaves the table, an accepted weld glues the two cells. Assumes nothing.
+use mathlib.Core.Path.{_≡_, sym, _∙_}
+use native.Mathlib.Omega.{arith}
+use Rattle.calls.specs.declared.Verdict.the-variants.{Accepted}
+use Rattle.weld.specs.Call.{weldVerdict}
+use Rattle.weld.proofs.Answers.{weld-accepted, ends-refused, ends-accepted}
+use borrow.Author.Needs.{needs}
+use Rattle.weld.proofs.weld.Statement.{statement}
+use Rattle.weld.proofs.weld.Tie as tie
+
+verdict-of-requires : tie.Need-verdict-of-requires
+verdict-of-requires c κs = search needs
+
+enum-known-found : tie.Need-enum-known-found
+enum-known-found c = search needs
+
+enum-told : tie.Need-enum-told
+enum-told c = search needs
+
+-- where the verdict is told to be acceptance, the table and the two cells are as a weld asks
+abbrev asked : tie.After-enum-told → tie.Start
+asked c = c .before .before .before .before .before
+
+accepted : (c : tie.After-enum-told) → weldVerdict (asked c .args .t .now) (asked c .args .a) (asked c .args .b) ≡ Accepted
+accepted c = sym (c .before .before .verdict-of .ensures) ∙ c .enum-told .given .1
+
+glue-requires : tie.Need-glue-requires
+glue-requires c κs = weld-accepted _ _ _ (accepted (c .before))
+
+same-length : tie.Need-same-length
+same-length c = search needs
+
+returns : tie.Need-returns
+returns c =
+    let g = c .before .before .before in
+    ends-accepted _ _ _ _ _ (accepted (g .before .before)) (omega (arith, c .if1 .taken)) (g .glue .ensures)
+
+same-length-2 : tie.Need-same-length-2
+same-length-2 c = search needs
+
+returns-2 : tie.Need-returns-2
+returns-2 c = ends-refused _ _ _ _ (sym (c .before .before .before .verdict-of .ensures) ∙ c .before .found .given .1)
+
+same-length-3 : tie.Need-same-length-3
+same-length-3 c = search needs
+
+returns-3 : tie.Need-returns-3
+returns-3 c =
+    let g = c .before .before .before in
+    ends-accepted _ _ _ _ _ (accepted (g .before .before)) (omega (arith, c .if1 .left)) (g .glue .ensures)
+
+pub weld-spec : {M : Type 1} → statement M
+weld-spec =
+    tie.close
+    (tie.spec
+    verdict-of-requires
+    enum-known-found
+    enum-told
+    glue-requires
+    same-length
+    returns
+    same-length-2
+    returns-2
+    same-length-3
+    returns-3)
