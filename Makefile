@@ -82,8 +82,8 @@ endef
 all: library program shared
 
 library:
-	@$(call rt_or_without,$(ARCHIVE) $(SHARED))
-	rm -f $(ARCHIVE) $(SHARED)
+	@$(call rt_or_without,$(ARCHIVE))
+	rm -rf $(ARCHIVE) target/shared
 	rt staticlib kernel || { rm -f $(ARCHIVE); exit 1; }
 	[ -f $(ARCHIVE) ] || { echo 'make $@: rt has left no archive' >&2; exit 1; }
 
@@ -96,7 +96,7 @@ program:
 
 # No start files and no build number: the bytes follow from the archive and the linker.
 shared: library
-	@mkdir -p target/shared
+	@rm -rf target/shared && mkdir -p target/shared
 	$(CC) -shared -nostartfiles -Wl,--whole-archive $(ARCHIVE) -Wl,--no-whole-archive -Wl,-soname,$(SONAME) -Wl,--build-id=none \
 		-Wl,-z,defs -Wl,-z,noexecstack -Wl,-s -o $(SHARED)
 

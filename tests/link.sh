@@ -1,10 +1,11 @@
 #!/usr/bin/env bash
 # What a mesher links: the C example as C and as C++, the same example and the tests of the Rust crate, and the installed library through
-# pkg-config. Each example must print examples/c/part.expected to the byte. And from C: buffers that are not there, and the parts of an answer.
+# pkg-config. Each example must print examples/c/part.expected to the byte. And from C: buffers that are not
+# there, the parts of an answer, and the stack of each call.
 set -eu
 cd "$(dirname "$0")/.."
 . tests/needs.bash
-needs link cc c++ make cargo pkg-config
+needs link cc c++ make cargo pkg-config nm awk
 archive=target/staticlib/libkernel.a
 built "$archive" library
 built target/bin/holes program
@@ -33,6 +34,14 @@ printf 'link: null where a length is 0: ok\n'
 cc -std=c99 "${warnings[@]}" -Iinclude tests/answers.c "$archive" -o "$place/answers"
 "$place/answers"
 printf 'link: the parts of an answer: ok\n'
+cc -std=c99 -O1 "${warnings[@]}" -Iinclude tests/stack.c "$archive" -pthread -Wl,-z,now -o "$place/stack"
+"$place/stack"
+printf 'link: the stack of each call: ok\n'
+if LC_ALL=C grep -n '[^ -~]' include/bumbleturf.h; then printf 'link: the header is not ASCII alone\n'; exit 1; fi
+# The functions of the header, of the Rust crate and of the archive are the same.
+sed -n 's/^uint32_t \(bt_[a-z_]*\)(.*/\1/p' include/bumbleturf.h | LC_ALL=C sort >"$place/declared"
+sed -n 's/^    pub fn \(bt_[a-z_]*\)(.*/\1/p' rust/src/raw.rs | LC_ALL=C sort | diff "$place/declared" -
+nm "$archive" | awk '$2 == "T" { print $3 }' | LC_ALL=C sort | diff "$place/declared" -
 # A mesher's plug-in is a shared library; the archive must be fit for one.
 cc -shared -fPIC -Iinclude examples/c/part.c "$archive" -o "$place/part.so"
 

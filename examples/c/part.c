@@ -3,18 +3,18 @@
 #include <bumbleturf.h>
 #include <stdio.h>
 
-enum { N = 8, MARKS = (N + 63) / 64 };
+enum { N = 8, WORDS = BT_TABLE_WORDS(N), MARKS = BT_MARK_WORDS(N), EVIDENCE = BT_EVIDENCE_WORDS(N) };
 
-static uint16_t table[8 * N];
+static uint16_t table[WORDS];
 
 /* Reduces, checks the evidence, and prints what it shows. */
 static uint32_t show(const char *what)
 {
-    uint64_t evidence[N * MARKS], additions[7];
-    uint16_t cells[7], holes[7];
-    uint32_t refused = bt_reduce(table, 8 * N, evidence, N * MARKS, additions);
+    uint64_t evidence[EVIDENCE], additions[BT_DIMENSIONS];
+    uint16_t cells[BT_DIMENSIONS], holes[BT_DIMENSIONS];
+    uint32_t refused = bt_reduce(table, WORDS, evidence, EVIDENCE, additions);
     if (refused == 0)
-        refused = bt_check(table, 8 * N, evidence, N * MARKS, cells, holes);
+        refused = bt_check(table, WORDS, evidence, EVIDENCE, cells, holes);
     if (refused == 0)
         printf("%s: pieces %u, tunnels %u, voids %u\n", what, holes[0], holes[1], holes[2]);
     return refused;
@@ -24,18 +24,18 @@ static uint32_t show(const char *what)
 static uint32_t cone(uint64_t cells, uint16_t *apex)
 {
     uint64_t marks[MARKS] = {cells};
-    return bt_cone(table, 8 * N, marks, MARKS, apex);
+    return bt_cone(table, WORDS, marks, MARKS, apex);
 }
 
-/* What a refused call says: its number, and with 2 where the table is broken. */
+/* What a refused call says: its number, its sentence, and with 2 where the table is broken. */
 static void tell(uint32_t answer)
 {
     const unsigned cell = bt_cell(answer), j = bt_place(answer), l = bt_second(answer);
-    printf("refused %u", (unsigned)bt_number(answer));
+    printf("refused %u, %s", (unsigned)bt_number(answer), bt_sentence(answer));
     switch (bt_kind(answer)) {
-    case BT_RECORD: printf(", record of cell %u", cell); break;
-    case BT_FACE: printf(", face %u of cell %u", j, cell); break;
-    case BT_LAW: printf(", faces %u and %u of cell %u", j, l, cell); break;
+    case BT_RECORD: printf(": record of cell %u", cell); break;
+    case BT_FACE: printf(": face %u of cell %u", j, cell); break;
+    case BT_LAW: printf(": faces %u and %u of cell %u", j, l, cell); break;
     }
     printf("\n");
 }
@@ -44,11 +44,11 @@ static uint32_t run(void)
 {
     uint16_t a, b, apex, list[N];
     uint32_t refused;
-    if ((refused = bt_empty(table, 8 * N))) return refused;
+    if ((refused = bt_empty(table, WORDS))) return refused;
     if ((refused = cone(0, &a))) return refused;                            /* point 0 */
     if ((refused = cone((uint64_t)1 << a, &b))) return refused;             /* point 1, edge 2 from 0 to 1 */
     if ((refused = show("segment"))) return refused;
-    if ((refused = bt_merge(table, 8 * N, a, b, &a))) return refused;       /* edge 2 is a loop at point 0 */
+    if ((refused = bt_merge(table, WORDS, a, b, &a))) return refused;       /* edge 2 is a loop at point 0 */
     if ((refused = show("ends merged"))) return refused;
     const uint64_t loop = (uint64_t)1 << a | (uint64_t)1 << 2;
     if ((refused = cone(loop, &apex))) return refused;                      /* a triangle closes the tunnel */
@@ -57,15 +57,15 @@ static uint32_t run(void)
     if ((refused = show("two caps"))) return refused;
     refused = cone(loop, &apex);                                            /* all 8 records are in use */
     printf("a third cap: refused %u\n", (unsigned)bt_number(refused));
-    refused = bt_merge(table, 8 * N, a, 2, &a);
+    refused = bt_merge(table, WORDS, a, 2, &a);
     printf("point with edge: refused %u\n", (unsigned)bt_number(refused));
-    if ((refused = bt_compact(table, 8 * N, list, N))) return refused;      /* points first, then edges, then triangles */
+    if ((refused = bt_compact(table, WORDS, list, N))) return refused;      /* points first, then edges, then triangles */
     printf("compacted: edge 2 is now %u\n", (unsigned)list[2]);
-    if ((refused = bt_weld(table, 8 * N, list[4], list[7], &a))) return refused; /* one cap on the other, with edge and tip */
+    if ((refused = bt_weld(table, WORDS, list[4], list[7], &a))) return refused; /* one cap on the other, with edge and tip */
     if ((refused = show("caps welded"))) return refused;
-    table[8 * list[2] + 1] = 700;                                           /* face 0 of that edge */
+    table[BT_RECORD_WORDS * list[2] + 1] = 700;                             /* face 0 of that edge */
     printf("broken by hand: ");
-    tell(bt_audit(table, 8 * N));
+    tell(bt_audit(table, WORDS));
     return 0;
 }
 

@@ -39,7 +39,9 @@ fn main() -> Result<(), Refusal> {
     let edge = list[usize::from(edge)];
     part.words_mut()[RECORD_WORDS * usize::from(edge) + 1] = 700; // face 0 of the edge
     match part.audit() {
-        Err(Refusal::Invalid(Breach::Face { cell, place })) => println!("broken by hand: refused 2, face {place} of cell {cell}"),
+        Err(Refusal::Invalid(Breach::Face { cell, place })) => {
+            println!("broken by hand: refused 2, the table is not valid: face {place} of cell {cell}")
+        }
         other => println!("broken by hand: {other:?}"),
     }
     Ok(())

@@ -20,6 +20,9 @@ mod raw;
 mod refusal;
 mod table;
 
+/// The version of this crate, of the header and of the archive that it links: that of `BT_VERSION` in `bumbleturf.h`.
+pub const VERSION: &str = env!("CARGO_PKG_VERSION");
+
 pub use breach::Breach;
 pub use refusal::Refusal;
 pub use table::{evidence_words, mark_words, Count, Table, CAPACITY, DIMENSIONS, FILE_BYTES, FREE, RECORD_WORDS, TOP_DIMENSION};
