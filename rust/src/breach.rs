@@ -2,12 +2,13 @@
 
 use std::fmt;
 
-use crate::{Table, RECORD_WORDS};
+use crate::{Table, RECORD_WORDS, TOP_DIMENSION};
 
 /// The first breach of a table: the lowest cell, there the record before the faces and these before the law, then the lowest place. For
 /// this search a cell is live when its word 0 is 0 to 6.
 ///
-/// It prints as a sentence, `cell 9: face 0 names no live cell of the dimension below`; [`Breach::beside`] adds what stands in the record.
+/// It prints as a sentence, `cell 9: face 0 names no live cell of the dimension below`; [`Breach::beside`] a table names the dimension too, and
+/// what stands in the record.
 #[derive(Clone, Copy, Debug, PartialEq, Eq, Hash)]
 pub enum Breach {
     /// Word 0 is neither 0 to 6 nor 65535, or an unused word is not 65535.
@@ -41,12 +42,15 @@ impl Breach {
         }
     }
 
-    /// The sentence, and after it the record of the cell as it stands in this table, dimension first:
-    /// `cell 9: face 0 names no live cell of the dimension below, in [1, 700, 3, 65535, 65535, 65535, 65535, 65535]`.
+    /// The sentence with the dimension that this table gives the cell, and after it the cell's record, dimension first:
+    /// `cell 9: face 0 names no live cell of dimension 0, in [1, 700, 3, 65535, 65535, 65535, 65535, 65535]`.
     pub fn beside<W: AsRef<[u16]>>(self, table: &Table<W>) -> String {
-        match table.words().chunks_exact(RECORD_WORDS).nth(self.cell().into()) {
-            Some(record) => format!("{self}, in {record:?}"),
-            None => self.to_string(),
+        match (self, table.words().chunks_exact(RECORD_WORDS).nth(self.cell().into())) {
+            (Breach::Face { cell, place }, Some(record)) if (1..=TOP_DIMENSION).contains(&usize::from(record[0])) => {
+                format!("cell {cell}: face {place} names no live cell of dimension {}, in {record:?}", record[0] - 1)
+            }
+            (_, Some(record)) => format!("{self}, in {record:?}"),
+            (_, None) => self.to_string(),
         }
     }
 

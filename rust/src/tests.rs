@@ -185,10 +185,7 @@ fn a_broken_table_names_its_first_breach() {
     assert_eq!(refused(&table), Breach::Face { cell: 4, place: 2 });
     let breach = refused(&table);
     assert_eq!(breach.to_string(), "cell 4: face 2 names no live cell of the dimension below");
-    assert_eq!(
-        breach.beside(&table),
-        "cell 4: face 2 names no live cell of the dimension below, in [2, 2, 3, 0, 65535, 65535, 65535, 65535]"
-    );
+    assert_eq!(breach.beside(&table), "cell 4: face 2 names no live cell of dimension 1, in [2, 2, 3, 0, 65535, 65535, 65535, 65535]");
     assert_eq!(breach.beside(&Table::over([0; 9])), breach.to_string());
     assert_eq!(table.merge(0, 0), Err(Refusal::Invalid(breach)));
 
