@@ -11,7 +11,7 @@
 #include <string.h>
 #include <time.h>
 
-enum { ROUNDS = 201, RUNS = 3, SLICE = 100000, COPIES = 128, CALLS = 12 };
+enum { ROUNDS = 201, RUNS = 3, SLICE = 100000, COPIES = 128, CALLS = 13 };
 
 static struct piece pieces[TABLES];
 

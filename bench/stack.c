@@ -10,7 +10,7 @@
 #include <stdlib.h>
 #include <string.h>
 
-enum { STACK = 1 << 20, CALLS = 10 };
+enum { STACK = 1 << 20, CALLS = 11 };
 
 static const char *const names[CALLS] = {"audit", "merge", "cone", "boundary", "sheet", "reduce", "check", "read", "write", "compact", "weld"};
 static const size_t rooms[3] = {8, 64, PL_ROOM};

@@ -11,7 +11,7 @@
 extern "C" {
 #endif
 
-enum { TABLES = 11 };
+enum { TABLES = 12 };
 
 /* A table of n records, and what the calls on it are asked: the chain's dimension, the two cells to merge (equal ones name no
  * merge) and the marks for a cone (conable says whether there is room for it). */
