@@ -1,10 +1,10 @@
 #!/usr/bin/env bash
-# The program holes as a user runs it: the example files, lengths and Ns at the edges of what it takes, input that comes in pieces, and
-# 2,000 random files against the independent second program.
+# The program holes as a user runs it: the example files, lengths and Ns at the edges of what it takes, input that comes in pieces, reads
+# and writes that fail, and 2,000 random files against the independent second program.
 set -eu
 cd "$(dirname "$0")/.."
 . tests/needs.bash
-needs programs cargo cc ld objcopy make timeout cmp
+needs programs cargo cc ld objcopy make python3 timeout cmp
 holes=target/bin/holes
 built "$holes" program
 place=$(mktemp -d)
@@ -15,12 +15,13 @@ run=0 failed=0
 gives() {
     local status=0
     run=$((run + 1))
-    timeout 60 "$holes" >"$place/out" || status=$?
+    timeout 60 "$holes" >"$place/out" 2>"$place/err" || status=$?
     # No exit status is promised for a refusal; from 124 on it means that the program hung, was not run, or was killed.
-    if [ "$status" -lt 124 ] && cmp -s "$2" "$place/out"; then return; fi
+    if [ "$status" -lt 124 ] && cmp -s "$2" "$place/out" && [ ! -s "$place/err" ]; then return; fi
     failed=$((failed + 1))
     printf 'programs: %s: exit status %s, expected and printed:\n' "$1" "$status"
     diff "$2" "$place/out" || true
+    cat "$place/err"
 }
 
 # refused NUMBER WORDS: the input on standard input must be refused with the number
@@ -108,6 +109,60 @@ refused 15 '8237 bytes in pieces' < <(
     sleep 0.2
     tail -c 1 "$place/8237" 2>"$place/ignored" # a program that has seen enough may leave before the last byte
 )
+
+# What follows fails while it reads or writes. fails COMMAND..: one run, whose status, output and standard error are kept.
+fails() {
+    status=0
+    timeout 60 "$@" >"$place/out" 2>"$place/err" || status=$?
+}
+
+# tells WORDS LINE PRINTED: the run has told that one line on standard error, and printed the file PRINTED. After a read that failed
+# nothing may be printed: the file may be cut.
+tells() {
+    run=$((run + 1))
+    printf 'holes: %s\n' "$2" >"$place/line"
+    if [ "$status" -lt 124 ] && cmp -s "$place/line" "$place/err" && cmp -s "$3" "$place/out"; then return; fi
+    failed=$((failed + 1))
+    printf 'programs: %s: exit status %s, told and printed:\n' "$1" "$status"
+    cat "$place/err" "$place/out"
+}
+unread='standard input could not be read to its end'
+unwritten='standard output could not be written'
+nothing=$place/empty
+
+fails "$holes" <"$place"
+tells 'a directory' "$unread" "$nothing"
+fails "$holes" <&-
+tells 'input that is closed' "$unread" "$nothing"
+fails sh -c '"$1" >/dev/full' sh "$holes" <examples/torus.sketch
+tells 'a full disk' "$unwritten" "$nothing"
+fails sh -c '"$1" >&-' sh "$holes" <examples/torus.sketch
+tells 'output that is closed' "$unwritten" "$nothing"
+fails sh -c '"$1" >&-' sh "$holes" <"$nothing"
+tells 'a refusal, and output that is closed' "$unwritten" "$nothing"
+
+# A pipe that does not wait and stays open, with nothing in it, half a file or a whole one: whether more would come is not known.
+cat >"$place/pipe.py" <<'END'
+import os, subprocess, sys
+out, into = os.pipe()
+os.set_blocking(out, False)
+os.write(into, open("examples/torus.sketch", "rb").read()[: int(sys.argv[2])])
+subprocess.run([sys.argv[1]], stdin=out)
+END
+for length in 0 40 80; do
+    fails python3 "$place/pipe.py" "$holes" "$length"
+    tells "a pipe that does not wait, with $length bytes" "$unread" "$nothing"
+done
+
+# Disks that fail, by a library that stands before the C library.
+for call in READ WRITE CLOSE; do cc -shared -fPIC "-D$call" tests/failing.c -o "$place/$call.so"; done
+head -c 10 examples/torus.expected >"$place/ten"
+fails env LD_PRELOAD="$place/READ.so" "$holes" <examples/torus.sketch
+tells 'an I/O error after 40 bytes' "$unread" "$nothing"
+fails env LD_PRELOAD="$place/WRITE.so" "$holes" <examples/torus.sketch
+tells 'a disk that is full after 10 bytes' "$unwritten" "$place/ten"
+fails env LD_PRELOAD="$place/CLOSE.so" "$holes" <examples/torus.sketch
+tells 'a disk that says at the close that it is full' "$unwritten" examples/torus.expected
 printf 'programs: %s inputs, %s failed\n' "$run" "$failed"
 
 # tests/second.sh builds it too, but comes later by name: on a fresh copy it is built here.

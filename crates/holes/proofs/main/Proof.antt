@@ -1,54 +1,61 @@
--- `main` is safe and ends: the text that it writes lies inside its bytes. Assumes nothing but the C library's read and write.
-use native.Mathlib.Omega.{arith}
+-- `main` is safe and ends: the bytes that were read lie inside the buffer. Assumes nothing but the C library's read, write and close.
 use mathlib.Core.Path.{sym}
-use Prim.Native.Nat.{_≤_, _<_}
+use Prim.Native.Nat.{_≤_}
 use lib.ListN.{length}
 use lib.Seq.{length-take-le}
 use borrow.Author.Needs.{needs}
 use Rattle.holes.proofs.main.Statement.{statement}
 use Rattle.holes.proofs.main.Tie as tie
 
-slice-aggregate-read-full : tie.Need-slice-aggregate-read-full
-slice-aggregate-read-full c = search needs
+slice-aggregate-read-all : tie.Need-slice-aggregate-read-all
+slice-aggregate-read-all c = search needs
 
-read-full-requires : tie.Need-read-full-requires
-read-full-requires c κs = search needs
+read-all-requires : tie.Need-read-all-requires
+read-all-requires c κs = search needs
+
+enum-known-got : tie.Need-enum-known-got
+enum-known-got c = search needs
+
+-- the bytes that were read lie inside the buffer
+inside : (c : tie.After-got) → c .got .given .0 .0 ≤ length (c .before .before .before .read-all .last .0)
+inside c = c .before .before .before .read-all .ensures .inside _ (c .got .given .1)
 
 array-share-prefix-file : tie.Need-array-share-prefix-file
-array-share-prefix-file c = search needs
+array-share-prefix-file c = inside (c .before)
 
-slice-aggregate-report : tie.Need-slice-aggregate-report
-slice-aggregate-report c = search needs
+slice-aggregate-answer : tie.Need-slice-aggregate-answer
+slice-aggregate-answer c = sym (length-take-le _ _ (inside (c .before .before)))
 
-report-requires : tie.Need-report-requires
-report-requires c κs = search needs
+answer-requires : tie.Need-answer-requires
+answer-requires c κs = search needs
 
--- the text lies inside its bytes
-inside : (c : tie.After-report) → c .report .result .len ≤ length (c .report .result .bytes)
-inside c = let l : c .report .result .len < length (c .report .result .bytes) = search needs in omega arith
+enum-told : tie.Need-enum-told
+enum-told c = search needs
 
-array-share-prefix-bytes : tie.Need-array-share-prefix-bytes
-array-share-prefix-bytes c = inside (c .before)
+slice-aggregate-tell : tie.Need-slice-aggregate-tell
+slice-aggregate-tell c = search needs
 
-slice-aggregate-write-all : tie.Need-slice-aggregate-write-all
-slice-aggregate-write-all c = sym (length-take-le _ _ (inside (c .before .before)))
-
-write-all-requires : tie.Need-write-all-requires
-write-all-requires c κs = search needs
+tell-requires : tie.Need-tell-requires
+tell-requires c κs = search needs
 
 returns : tie.Need-returns
 returns c = search needs
+
+returns-2 : tie.Need-returns-2
+returns-2 c = search needs
 
 pub main-spec : {M : Type 1} → statement M
 main-spec =
     tie.close
     (tie.spec
-    slice-aggregate-read-full
-    read-full-requires
+    slice-aggregate-read-all
+    read-all-requires
+    enum-known-got
     array-share-prefix-file
-    slice-aggregate-report
-    report-requires
-    array-share-prefix-bytes
-    slice-aggregate-write-all
-    write-all-requires
-    returns)
+    slice-aggregate-answer
+    answer-requires
+    enum-told
+    slice-aggregate-tell
+    tell-requires
+    returns
+    returns-2)
