@@ -1,7 +1,7 @@
 # Bumbleturf's doors for make, so that a mesher's build need not know `rt`.
 #   make                         all that `make install` needs: library, program, shared
 #   make library                 proves the kernel and writes the archive
-#   make program                 proves and links the program holes
+#   make program                 proves and links the programs holes and parts
 #   make shared                  a shared library of the archive
 #   make dist                    a tar file for machines without `rt`, the same bytes from every clone
 #   make test | bench | clean
@@ -16,7 +16,7 @@ export PREFIX LIBDIR DESTDIR
 
 VERSION := $(shell sed -n 's/^.define BT_VERSION "\(.*\)"$$/\1/p' include/bumbleturf.h)
 ARCHIVE = target/staticlib/libkernel.a
-PROGRAMS = holes
+PROGRAMS = holes parts
 BINARIES = $(PROGRAMS:%=target/bin/%)
 # While the version begins with 0, each second number is a face of its own.
 SONAME = libbumbleturf.so.$(basename $(VERSION))

@@ -13,7 +13,8 @@
 
 enum { ROUNDS = 201, RUNS = 3, SLICE = 100000, COPIES = 128, CALLS = 13 };
 
-static struct piece pieces[TABLES];
+static struct piece pieces[TABLES], listed;
+static struct list lists[LISTS];
 
 /* The buffers that the measured calls are lent; sink takes every answer, so that no call can be left out. */
 static struct {
@@ -24,6 +25,7 @@ static struct {
     int64_t chain[PL_ROOM], boundary[PL_ROOM], sum;
     uint64_t evidence[PL_ROOM * PL_ROW], made[PL_ROOM * PL_ROW], additions[PL_DIMENSIONS];
     uint8_t file[PL_LONGEST], written[PL_LONGEST], yes;
+    const struct list *partlist;
 } lent;
 
 static volatile uint32_t sink;
@@ -58,6 +60,7 @@ READING(reduce, reduce(t, words, lent.made, n * lent.row, lent.additions))
 READING(check, check(t, words, lent.evidence, n * lent.row, lent.cells, lent.holes))
 READING(put, write(t, words, lent.written, PL_LONGEST, &got))
 READING(get, read(lent.target, words, lent.file, lent.length))
+READING(import, import(lent.target, words, lent.partlist->text, lent.partlist->length))
 
 /* Cone, merge, weld and compaction change the table, so each call of a stretch has a fresh copy; copies are made outside the measured time and are few
  * enough to stay in the first cache. */
@@ -164,11 +167,32 @@ static int wanted(const char *name, int count, char **names)
     return count < 2;
 }
 
+/* Part lists are taken into a table of 512 cells; they have a table of ratios of their own. */
+static void measure_lists(void)
+{
+    double least[LISTS], most[LISTS];
+    listed.n = PL_ROOM;
+    lent.piece = &listed;
+    lent.words = PL_RECORD * PL_ROOM;
+    for (int run = 0; run < RUNS; run++)
+        for (int i = 0; i < LISTS; i++) {
+            lent.partlist = &lists[i];
+            listed.name = lists[i].name;
+            double r = ratio_of("import", import);
+            least[i] = run && least[i] < r ? least[i] : r;
+            most[i] = run && most[i] > r ? most[i] : r;
+        }
+    printf("\n| part list | import |\n|---|---|\n");
+    for (int i = 0; i < LISTS; i++)
+        printf("| %s | %.2f–%.2f |\n", lists[i].name, least[i], most[i]);
+}
+
 int main(int count, char **names)
 {
     static double least[CALLS][TABLES], most[CALLS][TABLES];
     fill_tables(pieces);
-    if (differences(pieces))
+    fill_lists(lists);
+    if (differences(pieces) + list_differences(lists))
         return 1;
     for (int run = 0; run < RUNS; run++)
         for (int k = 0; k < CALLS; k++)
@@ -195,5 +219,7 @@ int main(int count, char **names)
                 printf(" |");
     }
     printf("\n");
+    if (wanted("import", count, names))
+        measure_lists();
     return 0;
 }

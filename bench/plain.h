@@ -39,6 +39,7 @@ uint32_t pl_check(const uint16_t *table, size_t words, const uint64_t *evidence,
                   uint16_t *cells, uint16_t *holes);
 uint32_t pl_write(const uint16_t *table, size_t words, uint8_t *target, size_t target_len, size_t *written);
 uint32_t pl_read(uint16_t *table, size_t words, const uint8_t *file, size_t file_len);
+uint32_t pl_import(uint16_t *table, size_t words, const uint8_t *text, size_t text_len);
 
 /* Whether a table may have this length. */
 static inline int pl_length(size_t words)

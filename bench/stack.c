@@ -10,12 +10,13 @@
 #include <stdlib.h>
 #include <string.h>
 
-enum { STACK = 1 << 20, CALLS = 11 };
+enum { STACK = 1 << 20, CALLS = 12 };
 
-static const char *const names[CALLS] = {"audit", "merge", "cone", "boundary", "sheet", "reduce", "check", "read", "write", "compact", "weld"};
+static const char *const names[CALLS] = {"audit", "merge", "cone", "boundary", "sheet", "reduce", "check", "read", "write", "compact", "weld", "import"};
 static const size_t rooms[3] = {8, 64, PL_ROOM};
 
 static struct piece pieces[TABLES];
+static struct list lists[LISTS];
 static uint8_t *stack;
 
 static struct {
@@ -52,6 +53,7 @@ static __attribute__((noinline)) void call(void)
     case 8: work.answer = s->write(t, words, work.written, PL_LONGEST, &work.length); break;
     case 9: work.answer = s->compact(t, words, work.list, work.n); break;
     case 10: work.answer = s->weld(t, words, work.a, work.b, &work.number); break;
+    case 11: work.answer = s->import(t, words, lists[1].text, lists[1].length); break;
     default: work.answer = 0;
     }
 }
@@ -101,6 +103,7 @@ int main(void)
 {
     stack = aligned_alloc(4096, STACK);
     fill_tables(pieces);
+    fill_lists(lists);
     if (!stack)
         return 1;
     printf("| call     | library N 8 | N 64 | N 512 | C N 8 | N 64 | N 512 |\n|---|---|---|---|---|---|---|\n");

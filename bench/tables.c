@@ -7,9 +7,9 @@
 #include <string.h>
 
 const struct calls library = {bt_audit,    bt_cone,   bt_merge, bt_weld,   bt_compact, bt_incidence,
-                              bt_boundary, bt_corner, bt_sheet, bt_reduce, bt_check,   bt_write, bt_read};
+                              bt_boundary, bt_corner, bt_sheet, bt_reduce, bt_check,   bt_write, bt_read, bt_import};
 const struct calls plain = {pl_audit,    pl_cone,   pl_merge, pl_weld,   pl_compact, pl_incidence,
-                            pl_boundary, pl_corner, pl_sheet, pl_reduce, pl_check,   pl_write, pl_read};
+                            pl_boundary, pl_corner, pl_sheet, pl_reduce, pl_check,   pl_write, pl_read, pl_import};
 
 uint32_t draw(uint64_t *state, uint32_t limit)
 {

@@ -24,6 +24,18 @@ struct piece {
     uint64_t marks[PL_ROW];
 };
 
+/* A part list. */
+enum { LISTS = 3, LIST_BYTES = 1 << 14 };
+
+struct list {
+    const char *name;
+    uint8_t text[LIST_BYTES];
+    size_t length;
+};
+
+/* Fills the part lists; the same at every run. */
+void fill_lists(struct list lists[LISTS]);
+
 /* Fills the list of tables; the same at every run. */
 void fill_tables(struct piece pieces[TABLES]);
 
@@ -44,6 +56,7 @@ struct calls {
     uint32_t (*check)(const uint16_t *, size_t, const uint64_t *, size_t, uint16_t *, uint16_t *);
     uint32_t (*write)(const uint16_t *, size_t, uint8_t *, size_t, size_t *);
     uint32_t (*read)(uint16_t *, size_t, const uint8_t *, size_t);
+    uint32_t (*import)(uint16_t *, size_t, const uint8_t *, size_t);
 };
 
 extern const struct calls library, plain;
@@ -60,6 +73,9 @@ struct outcome {
 
 /* Holds the plain version against the library on every table and on damaged ones; answers the number of differences. */
 int differences(const struct piece pieces[TABLES]);
+
+/* The same for part lists, whole and damaged. */
+int list_differences(const struct list lists[LISTS]);
 
 #ifdef __cplusplus
 }

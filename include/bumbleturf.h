@@ -20,16 +20,16 @@
  *   13 to 15   bt_second   with BT_LAW: l
  *   16 to 31   bt_cell     with 2 the cell of the breach, with 13 and 14 the row at fault
  *
- * What a pointer for a value refers to is written on acceptance alone. A refusal changes nothing that was lent, but for bt_read, which
- * refused with anything but 1 leaves every word 65535.
+ * What a pointer for a value refers to is written on acceptance alone. A refusal changes nothing that was lent, but for bt_read
+ * and bt_import, which refused with anything but 1 leave every word 65535.
  * Lengths are counted in elements. Buffers of one call must not overlap. Where a length is 0 the pointer may be null or point anywhere:
  * a buffer of length 0 is never looked into. A pointer for a value is never null.
  *
  * There is no allocation, no global state and no lock. Calls on different tables may run on different threads at the same time. So may
  * calls on one table, as long as all of them take it as const: each writes only to what it was lent to write to.
  *
- * Stack that one call takes, in bytes: bt_reduce at most 36,864; bt_cone, bt_weld, bt_compact and bt_sheet at most 1,536; bt_check at
- * most 1,024; every other call at most 512.
+ * Stack that one call takes, in bytes: bt_reduce at most 36,864; bt_cone, bt_weld, bt_compact and bt_sheet at most 1,536; bt_check and
+ * bt_import at most 1,024; every other call at most 512.
  */
 #ifndef BUMBLETURF_H
 #define BUMBLETURF_H
@@ -66,14 +66,16 @@ enum bt_refusal {
     BT_FACES_DIFFER = 6,      /* merge: the face lists differ */
     BT_NOT_CLOSED = 7,        /* cone: a face of a marked cell is not marked */
     BT_TOP_MARKED = 8,        /* cone: a marked cell has dimension 6 */
-    BT_NO_ROOM = 9,           /* cone: fewer free records than marks + 1; write: the target is shorter than the file */
+    BT_NO_ROOM = 9,           /* cone: fewer free records than marks + 1; write: the target is shorter than the file; import: over N cells */
     BT_TOO_LARGE = 10,        /* boundary: a coefficient outside -2^40 to 2^40 */
     BT_MISPLACED = 11,        /* boundary: a coefficient other than 0 at a number that is no live p-cell */
     BT_NO_SUCH_PLACE = 12,    /* a dimension above 6, or a corner index above p */
     BT_RULE_A = 13,           /* rule A of the evidence is broken */
     BT_RULE_B = 14,           /* rule B of the evidence is broken */
     BT_BAD_CONTENTS = 15,     /* read: under 44 bytes, N not the table's, an offset or the length wrong */
-    BT_BAD_NUMBER = 16        /* read: a body number not below N, not rising in its body, or used in a lower body */
+    BT_BAD_NUMBER = 16,       /* read: a body number not below N, not rising in its body, or used in a lower body */
+    BT_BAD_TEXT = 17,         /* import: the text is no part list */
+    BT_BAD_INDEX = 18         /* import: an index is repeated in its line, or not below the count */
 };
 
 /* What bt_kind answers for refusal 2; 0 for every other answer. */
@@ -103,7 +105,7 @@ static inline const char *bt_sentence(uint32_t number)
     case BT_FACES_DIFFER: return "the face lists of the two cells differ";
     case BT_NOT_CLOSED: return "a face of a marked cell is not marked";
     case BT_TOP_MARKED: return "a marked cell has dimension 6";
-    case BT_NO_ROOM: return "too few free records, or the target is shorter than the file";
+    case BT_NO_ROOM: return "too few records for the cells, or the target is shorter than the file";
     case BT_TOO_LARGE: return "a coefficient lies outside -2^40 to 2^40";
     case BT_MISPLACED: return "a coefficient stands at a number that is no live cell of the dimension";
     case BT_NO_SUCH_PLACE: return "a dimension is above 6, or a corner index above the cell's dimension";
@@ -111,6 +113,8 @@ static inline const char *bt_sentence(uint32_t number)
     case BT_RULE_B: return "the evidence breaks rule B";
     case BT_BAD_CONTENTS: return "the file's table of contents or its length is wrong";
     case BT_BAD_NUMBER: return "a cell number of the file is not below N, not rising, or used twice";
+    case BT_BAD_TEXT: return "the text is no part list";
+    case BT_BAD_INDEX: return "an index of the part list is repeated in its line or not below the count";
     default: return "no refusal of this version";
     }
 }
@@ -164,6 +168,13 @@ uint32_t bt_write(const uint16_t *table, size_t words, uint8_t *target, size_t t
 /* Fills the table from a sketch file; its old contents are not looked at. Refused: 1, 15, 16, 2; with 1 the table stays, with any
  * other every word is 65535. */
 uint32_t bt_read(uint16_t *table, size_t words, const uint8_t *file, size_t file_len);
+
+/* Fills the table from a part list; its old contents are not looked at. The text has a point count on its first line, then on each line
+ * 1 to 7 indices below it, one space between; a number has 1 to 5 digits and no leading zero, and every line ends with one newline byte.
+ * The points and each non-empty subset of a line become one cell, once, with corners in rising index; they are numbered by dimension,
+ * then by corners in dictionary order. The text may have any length. Refused: 1, 17, 18, 9; with 1 the table stays, with any other every
+ * word is 65535. */
+uint32_t bt_import(uint16_t *table, size_t words, const uint8_t *text, size_t text_len);
 
 #ifdef __cplusplus
 }

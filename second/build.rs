@@ -9,7 +9,7 @@ use std::path::Path;
 use std::process::Command;
 
 /// The names of the C header.
-const NAMES: [&str; 14] = [
+const NAMES: [&str; 15] = [
     "bt_empty",
     "bt_audit",
     "bt_cone",
@@ -24,6 +24,7 @@ const NAMES: [&str; 14] = [
     "bt_read",
     "bt_compact",
     "bt_weld",
+    "bt_import",
 ];
 
 /// Joins the library to one object with no other visible names; answers whether that was done.

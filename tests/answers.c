@@ -6,7 +6,7 @@
 enum { CELLS = 8, RECORD = BT_RECORD_WORDS, WORDS = BT_TABLE_WORDS(CELLS), DIMENSIONS = BT_DIMENSIONS };
 
 /* The last refusal. */
-enum { LAST = BT_BAD_NUMBER };
+enum { LAST = BT_BAD_INDEX };
 
 static unsigned wrong;
 
@@ -33,7 +33,7 @@ static void constants(void)
 static void names(void)
 {
     if (BT_MARK_WORDS(1) != 1 || BT_MARK_WORDS(64) != 1 || BT_MARK_WORDS(65) != 2 || BT_EVIDENCE_WORDS(BT_CAPACITY) != 4096 ||
-        BT_TABLE_WORDS(BT_CAPACITY) != 4096 || LAST != 16) {
+        BT_TABLE_WORDS(BT_CAPACITY) != 4096 || LAST != 18) {
         printf("answers: a length or number of the header is wrong\n");
         wrong++;
     }

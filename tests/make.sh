@@ -58,7 +58,7 @@ refuses 'is not built' install DESTDIR="$place/none"
 # Plain make builds all that install needs.
 makes
 makes install DESTDIR="$place/dest" PREFIX=/opt/bt
-for file in lib/libbumbleturf.a lib/libbumbleturf.so include/bumbleturf.h bin/holes lib/pkgconfig/bumbleturf.pc; do
+for file in lib/libbumbleturf.a lib/libbumbleturf.so include/bumbleturf.h bin/holes bin/parts lib/pkgconfig/bumbleturf.pc; do
     [ -f "$place/dest/opt/bt/$file" ] || fail "install leaves out $file"
 done
 makes uninstall DESTDIR="$place/dest" PREFIX=/opt/bt
@@ -104,7 +104,7 @@ done
 for when in check late-check; do
     makes
     FAIL=$when refuses '' program
-    [ ! -e "$copy/target/bin/holes" ] || fail "after a failed program ($when) there is one"
+    [ ! -e "$copy/target/bin/holes" ] && [ ! -e "$copy/target/bin/parts" ] || fail "after a failed program ($when) there is one"
 done
 for when in staticlib check; do FAIL=$when refuses '' -j4 library program; done
 : >"$place/log"
@@ -134,7 +134,7 @@ tar -C "$place" -xf "$copy/$tar"
 unpacked=$place/$(basename "$tar" .tar)
 ( cd "$unpacked" && sha256sum --quiet -c SHA256SUMS )
 cmp kit.txt "$unpacked/kit.txt"
-for file in lib/libbumbleturf.a "lib/$so" lib/libbumbleturf.so lib/pkgconfig/bumbleturf.pc include/bumbleturf.h bin/holes; do
+for file in lib/libbumbleturf.a "lib/$so" lib/libbumbleturf.so lib/pkgconfig/bumbleturf.pc include/bumbleturf.h bin/holes bin/parts; do
     [ -f "$unpacked/$file" ] || fail "the tar file leaves out $file"
 done
 # shellcheck disable=SC2046 # several words

@@ -1,5 +1,5 @@
 /* Every buffer of every call as C callers pass one that is not there: a null pointer and length 0. Each call must answer its refusal, and
- * write nothing, but for the reader, which empties the table. */
+ * write nothing, but for the reader and the import, which empty the table. */
 #include <bumbleturf.h>
 #include <stdio.h>
 
@@ -43,6 +43,19 @@ static void no_table(void)
     refused("write without anything", bt_write(NULL, 0, NULL, 0, &written), BT_LENGTH);
     refused("read without a table", bt_read(NULL, 0, bytes, 1), BT_LENGTH);
     refused("read without anything", bt_read(NULL, 0, NULL, 0), BT_LENGTH);
+    refused("import without a table", bt_import(NULL, 0, bytes, 1), BT_LENGTH);
+    refused("import without anything", bt_import(NULL, 0, NULL, 0), BT_LENGTH);
+}
+
+/* The refusal of a call that fills the table must leave it empty. */
+static void emptied(const char *call, uint16_t *table)
+{
+    for (int i = 0; i < WORDS; i++)
+        if (table[i] != BT_FREE) {
+            printf("nothing lent: the refused %s leaves %u in word %d\n", call, (unsigned)table[i], i);
+            wrong++;
+        }
+    table[0] = 0;
 }
 
 /* A table with one point, and each other buffer missing by itself. */
@@ -66,11 +79,9 @@ static void no_other_buffer(void)
         wrong++;
     }
     refused("read without a file", bt_read(table, WORDS, NULL, 0), BT_BAD_CONTENTS);
-    for (int i = 0; i < WORDS; i++)
-        if (table[i] != BT_FREE) {
-            printf("nothing lent: the refused reader leaves %u in word %d\n", (unsigned)table[i], i);
-            wrong++;
-        }
+    emptied("reader", table);
+    refused("import without a text", bt_import(table, WORDS, NULL, 0), BT_BAD_TEXT);
+    emptied("import", table);
 }
 
 int main(void)

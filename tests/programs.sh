@@ -1,26 +1,28 @@
 #!/usr/bin/env bash
-# The program holes as a user runs it: the example files, lengths and Ns at the edges of what it takes, input that comes in pieces, reads
-# and writes that fail, and 2,000 random files against the independent second program.
+# The programs holes and parts as a user runs them: the example files, lengths and Ns at the edges of what they take, input that comes
+# in pieces, reads and writes that fail, and random files and lists against the independent second program.
 set -eu
 cd "$(dirname "$0")/.."
 . tests/needs.bash
 needs programs cargo cc ld objcopy make python3 timeout cmp
-holes=target/bin/holes
+holes=target/bin/holes parts=target/bin/parts
 built "$holes" program
+built "$parts" program
 place=$(mktemp -d)
 trap 'rm -rf "$place"' EXIT
 run=0 failed=0
 
-# gives WORDS EXPECTED: the program must print the file EXPECTED, to the byte, for the input on standard input
+# gives WORDS EXPECTED: $program must print the file EXPECTED, to the byte, for the input on standard input
+program=$holes
 gives() {
     local status=0
     run=$((run + 1))
-    timeout 60 "$holes" >"$place/out" 2>"$place/err" || status=$?
+    timeout 60 "$program" >"$place/out" 2>"$place/err" || status=$?
     # No exit status is promised for a refusal; from 124 on it means that the program hung, was not run, or was killed.
     if [ "$status" -lt 124 ] && cmp -s "$2" "$place/out" && [ ! -s "$place/err" ]; then return; fi
     failed=$((failed + 1))
     printf 'programs: %s: exit status %s, expected and printed:\n' "$1" "$status"
-    diff "$2" "$place/out" || true
+    diff -a "$2" "$place/out" || true
     cat "$place/err"
 }
 
@@ -163,6 +165,28 @@ fails env LD_PRELOAD="$place/WRITE.so" "$holes" <examples/torus.sketch
 tells 'a disk that is full after 10 bytes' "$unwritten" "$place/ten"
 fails env LD_PRELOAD="$place/CLOSE.so" "$holes" <examples/torus.sketch
 tells 'a disk that says at the close that it is full' "$unwritten" examples/torus.expected
+
+# Part lists: the examples through both programs, then what parts alone says.
+for list in examples/*.parts; do
+    timeout 60 "$parts" <"$list" >"$place/sketch"
+    gives "$list" "${list%.parts}.expected" <"$place/sketch"
+done
+program=$parts
+# text WORDS: the words as they are, with \n for a newline
+text() { printf '%b' "$1" >"$place/list"; }
+text '0\n'; gives 'a list without points' "$place/512" <"$place/list"
+for list in '' '3' '3\n0 1' '3\n0  1\n' '3\n0 1 \n' '3\n 0 1\n' '3\n0\t1\n' '3\r\n0 1\r\n' '3\n\n' '03\n' '3 4\n' '3\n01\n' '100000\n' '-1\n' \
+    '8\n0 1 2 3 4 5 6 7\n' '600\n5 x\n' '3\n1 1\nx\n' 'refused 2\n'; do
+    text "$list"; refused 17 "the list $list" <"$place/list"
+done
+for list in '3\n1 1\n' '3\n3\n' '0\n0\n' '70000\n69999 70000\n' '600\n0 1\n600\n'; do
+    text "$list"; refused 18 "the list $list" <"$place/list"
+done
+for list in '513\n' '99999\n69999 70000\n' '506\n0 1 2\n3 4 5\n'; do
+    text "$list"; refused 9 "the list $list" <"$place/list"
+done
+"$parts" <examples/duct.parts >"$place/sketch"
+gives 'the casting in pieces' "$place/sketch" < <(head -c 100 examples/duct.parts; sleep 0.2; tail -c +101 examples/duct.parts)
 printf 'programs: %s inputs, %s failed\n' "$run" "$failed"
 
 # tests/second.sh builds it too, but comes later by name: on a fresh copy it is built here.
@@ -174,6 +198,7 @@ if [ ! -x "$second" ] && [ -e second/Cargo.toml ]; then
 fi
 if [ -x "$second" ]; then
     "$second" program "$holes" || { failed=$((failed + 1)); printf 'programs: random files: FAILED\n'; }
+    "$second" lists "$parts" || { failed=$((failed + 1)); printf 'programs: random lists: FAILED\n'; }
 else
     printf 'programs: random files: not run, there is no second program\n'
 fi

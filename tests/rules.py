@@ -101,6 +101,11 @@ class Session:
         word = self.call("boundary", *self.lent(ctypes.c_int64, chain), ctypes.c_uint16(int(dimension)), result, length)
         return told(word) if word else " ".join("%d:%d" % (c, x) for c, x in enumerate(result) if x)
 
+    def imported(self, *lines):
+        text = ("\n".join(" ".join(lines).split(" / ")) + "\n").encode()
+        buffer = (ctypes.c_uint8 * len(text)).from_buffer_copy(text)
+        return told(self.call("import", buffer, ctypes.c_size_t(len(text))))
+
     def corner(self, cell, k):
         return self.valued("corner", ctypes.c_uint16, ctypes.c_uint16(int(cell)), ctypes.c_uint16(int(k)))
 
@@ -138,7 +143,7 @@ def run_session(library, lines):
         if not words.strip():
             continue
         name, *rest = words.split()
-        got = getattr(session, name)(*rest)
+        got = getattr(session, "imported" if name == "import" else name)(*rest)
         count += 1
         if got.split() != (expected.split() if arrow else ["accepted"]):
             wrong.append("%s: answers %s" % (line.split("#")[0].strip(), got))

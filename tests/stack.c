@@ -13,6 +13,7 @@ static uint16_t table[WORDS], keep[WORDS], list[N], cells[BT_DIMENSIONS], holes[
 static uint64_t marks[BT_MARK_WORDS(N)], evidence[BT_EVIDENCE_WORDS(N)], additions[BT_DIMENSIONS];
 static int64_t chain[N], boundary[N], sum;
 static uint8_t file[BT_FILE_BYTES], yes, *stack;
+static const uint8_t list_text[] = "14\n6 5 4 3 2 1 0\n7 8 9 10 11 12 13\n0 13\n";
 static size_t written, deep;
 static uint32_t answer;
 
@@ -30,6 +31,7 @@ static void reduce(void) { answer = bt_reduce(table, WORDS, evidence, BT_EVIDENC
 static void check(void) { answer = bt_check(table, WORDS, evidence, BT_EVIDENCE_WORDS(N), cells, holes); }
 static void store(void) { answer = bt_write(table, WORDS, file, BT_FILE_BYTES, &written); }
 static void load(void) { answer = bt_read(table, WORDS, file, written); }
+static void import(void) { answer = bt_import(table, WORDS, list_text, sizeof list_text - 1); }
 
 static const struct {
     const char *name;
@@ -37,7 +39,7 @@ static const struct {
     size_t most;
 } calls[] = {{"audit", audit, 512},     {"incidence", incidence, 512}, {"boundary", edge, 512}, {"corner", corner, 512}, {"sheet", sheet, 1536},
              {"reduce", reduce, 36864}, {"check", check, 1024},        {"write", store, 512},   {"read", load, 512},     {"merge", merge, 512},
-             {"weld", weld, 1536},      {"compact", compact, 1536},    {"cone", cone, 1536},    {"empty", empty, 512}};
+             {"weld", weld, 1536},      {"compact", compact, 1536},    {"cone", cone, 1536},    {"empty", empty, 512},   {"import", import, 1024}};
 
 static size_t which;
 

@@ -1,11 +1,12 @@
 /* A part built by cones, one call at a time, and its hole numbers after each: a segment, its ends merged, and two caps on the loop. Then
- * two calls that are refused, and a table that was broken by hand. */
+ * two calls that are refused, a table that was broken by hand, and one from a part list. */
 #include <bumbleturf.h>
 #include <stdio.h>
 
 enum { N = 8, WORDS = BT_TABLE_WORDS(N), MARKS = BT_MARK_WORDS(N), EVIDENCE = BT_EVIDENCE_WORDS(N) };
 
 static uint16_t table[WORDS];
+static const uint8_t frame[] = "3\n0 1\n1 2\n2 0\n"; /* three points and three edges; the 0 byte at its end is not part of it */
 
 /* Reduces, checks the evidence, and prints what it shows. */
 static uint32_t show(const char *what)
@@ -66,7 +67,8 @@ static uint32_t run(void)
     table[BT_RECORD_WORDS * list[2] + 1] = 700;                             /* face 0 of that edge */
     printf("broken by hand: ");
     tell(bt_audit(table, WORDS));
-    return 0;
+    if ((refused = bt_import(table, WORDS, frame, sizeof frame - 1))) return refused;
+    return show("frame from a part list");
 }
 
 int main(void)

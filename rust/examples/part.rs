@@ -1,5 +1,5 @@
 //! A part built by cones, one call at a time, and its hole numbers after each: a segment, its ends merged, and two caps on the loop. Then
-//! two calls that are refused, and a table that was broken by hand.
+//! two calls that are refused, a table that was broken by hand, and one from a part list.
 
 use bumbleturf::{evidence_words, Breach, Refusal, Table, RECORD_WORDS};
 
@@ -44,5 +44,7 @@ fn main() -> Result<(), Refusal> {
         }
         other => println!("broken by hand: {other:?}"),
     }
+    part.import("3\n0 1\n1 2\n2 0\n")?; // three points and three edges
+    show("frame from a part list", &part)?;
     Ok(())
 }

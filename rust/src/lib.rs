@@ -1,8 +1,8 @@
 //! Bumbleturf for Rust: safe calls of the proved kernel for sketches of parts.
 //!
 //! A [`Table`] owns or borrows 8·N words of 16 bits, N from 1 to 512. Every call takes any input whatever: a damaged table, a short buffer
-//! or a wrong number is answered with a [`Refusal`], and a refused call changes nothing, but for [`Table::read`], which refused with
-//! anything but 1 leaves every word [`FREE`].
+//! or a wrong number is answered with a [`Refusal`], and a refused call changes nothing, but for [`Table::read`] and [`Table::import`], which
+//! refused with anything but 1 leave every word [`FREE`].
 //!
 //! ```
 //! use bumbleturf::Table;

@@ -32,4 +32,5 @@ extern "C" {
     ) -> u32;
     pub fn bt_write(table: *const u16, words: usize, target: *mut u8, target_len: usize, written: *mut usize) -> u32;
     pub fn bt_read(table: *mut u16, words: usize, file: *const u8, file_len: usize) -> u32;
+    pub fn bt_import(table: *mut u16, words: usize, text: *const u8, text_len: usize) -> u32;
 }

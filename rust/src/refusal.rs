@@ -4,8 +4,9 @@ use std::fmt;
 
 use crate::Breach;
 
-/// The sixteen refusals; [`Refusal::number`] is the one of `bumbleturf.h`. Several at once: the lowest number applies, but a boundary tests
-/// 12 before 10 and 11, the first row at fault decides between 13 and 14, and the reader tests 1, 15, 16, 2.
+/// The eighteen refusals; [`Refusal::number`] is the one of `bumbleturf.h`. Several at once: the lowest number applies, but a boundary tests
+/// 12 before 10 and 11, the first row at fault decides between 13 and 14, the reader tests 1, 15, 16, 2, and a part list
+/// 1, 17, 18, 9.
 #[derive(Clone, Copy, Debug, PartialEq, Eq, Hash)]
 pub enum Refusal {
     /// 1: the table is not 8·N words with N from 1 to 512, or another buffer has not the length stated for that N.
@@ -24,7 +25,7 @@ pub enum Refusal {
     NotClosed,
     /// 8: a marked cell has dimension 6.
     TopMarked,
-    /// 9: fewer free records than marks + 1, or the writer's target is shorter than the file.
+    /// 9: fewer free records than marks + 1, more cells in a part list than N, or the writer's target is shorter than the file.
     NoRoom,
     /// 10: a coefficient outside ±2^40.
     TooLarge,
@@ -46,10 +47,14 @@ pub enum Refusal {
     BadContents,
     /// 16: a body number of the file is not below N, not rising in its body, or used in a lower body.
     BadNumber,
+    /// 17: the text is no part list.
+    BadText,
+    /// 18: an index of a part list is repeated in its line, or not below the count.
+    BadIndex,
 }
 
 impl Refusal {
-    /// The refusal's number, 1 to 16.
+    /// The refusal's number, 1 to 18.
     pub fn number(self) -> u32 {
         match self {
             Refusal::Length => 1,
@@ -68,6 +73,8 @@ impl Refusal {
             Refusal::RuleB { .. } => 14,
             Refusal::BadContents => 15,
             Refusal::BadNumber => 16,
+            Refusal::BadText => 17,
+            Refusal::BadIndex => 18,
         }
     }
 
@@ -92,6 +99,8 @@ impl Refusal {
             (14, _) => Refusal::RuleB { row },
             (15, _) => Refusal::BadContents,
             (16, _) => Refusal::BadNumber,
+            (17, _) => Refusal::BadText,
+            (18, _) => Refusal::BadIndex,
             // Only another archive than the one this crate was written for can answer so.
             _ => panic!("the linked bumbleturf archive answered {word:#x}, which is no refusal of version {}", env!("CARGO_PKG_VERSION")),
         })
@@ -109,7 +118,7 @@ impl fmt::Display for Refusal {
             Refusal::FacesDiffer => "the face lists of the two cells differ",
             Refusal::NotClosed => "a face of a marked cell is not marked",
             Refusal::TopMarked => "a marked cell has dimension 6",
-            Refusal::NoRoom => "too few free records, or the target is shorter than the file",
+            Refusal::NoRoom => "too few records for the cells, or the target is shorter than the file",
             Refusal::TooLarge => "a coefficient lies outside ±2^40",
             Refusal::Misplaced => "a coefficient stands at a number that is no live cell of the dimension",
             Refusal::NoSuchPlace => "a dimension is above 6, or a corner index above the cell's dimension",
@@ -117,6 +126,8 @@ impl fmt::Display for Refusal {
             Refusal::RuleB { row } => return write!(f, "the evidence breaks rule B in row {row}"),
             Refusal::BadContents => "the file's table of contents or its length is wrong",
             Refusal::BadNumber => "a cell number of the file is not below N, not rising, or used twice",
+            Refusal::BadText => "the text is no part list",
+            Refusal::BadIndex => "an index of the part list is repeated in its line or not below the count",
         })
     }
 }

@@ -67,6 +67,19 @@ impl Table<Vec<u16>> {
         table.read(file)?;
         Ok(table)
     }
+
+    /// A table of N = 512, filled from a part list, as the program `parts` does. Refused: 17, 18, 9.
+    ///
+    /// ```
+    /// let block = bumbleturf::Table::from_list("4\n0 1 2 3\n")?; // one tetrahedron
+    /// assert_eq!(block.count()?.cells[..4], [4, 6, 4, 1]);
+    /// # Ok::<(), bumbleturf::Refusal>(())
+    /// ```
+    pub fn from_list(text: impl AsRef<[u8]>) -> Result<Self, Refusal> {
+        let mut table = Table::new(CAPACITY)?;
+        table.import(text)?;
+        Ok(table)
+    }
 }
 
 impl<W> Table<W> {
@@ -238,5 +251,15 @@ impl<W: AsRef<[u16]> + AsMut<[u16]>> Table<W> {
     pub fn read(&mut self, file: &[u8]) -> Result<(), Refusal> {
         let t = self.words_mut();
         Refusal::answer(unsafe { bt_read(t.as_mut_ptr(), t.len(), file.as_ptr(), file.len()) })
+    }
+
+    /// Fills the table from a part list; its old contents are not looked at. The text has a point count on its first line, then on each
+    /// line 1 to 7 indices below it, one space between; every line ends with a newline. The points and each non-empty subset of a line
+    /// become one cell, once, with corners in rising index, numbered by dimension, then by corners in dictionary order. Refused, in this
+    /// order: 1, 17 for a text that is no part list, 18 for an index repeated in its line or not below the count, 9 for more cells than N;
+    /// with 1 the table stays, with any other every word is 65535.
+    pub fn import(&mut self, text: impl AsRef<[u8]>) -> Result<(), Refusal> {
+        let (t, text) = (self.words_mut(), text.as_ref());
+        Refusal::answer(unsafe { bt_import(t.as_mut_ptr(), t.len(), text.as_ptr(), text.len()) })
     }
 }

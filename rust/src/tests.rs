@@ -253,15 +253,37 @@ fn a_file_gives_the_table_back() {
 }
 
 #[test]
-fn numbers_and_sentences_are_sixteen() {
+fn a_part_list_gives_its_cells() {
+    let mut table = Table::new(8).unwrap();
+    assert_eq!(table.import("3\n2 0 1\n0 1\n"), Ok(()));
+    let triangle: [(u16, u16, &[u16]); 7] =
+        [(0, 0, &[]), (1, 0, &[]), (2, 0, &[]), (3, 1, &[1, 0]), (4, 1, &[2, 0]), (5, 1, &[2, 1]), (6, 2, &[5, 4, 3])];
+    assert_eq!(table, made(8, &triangle));
+    assert_eq!(table.import(b"4\n0 1 2\n"), Ok(())); // the fourth point stays by itself
+    assert_eq!(table.count().unwrap().holes[..2], [2, 0]);
+    assert_eq!(table.import("5\n0 1 2\n"), Err(Refusal::NoRoom));
+    assert!(table.words().iter().all(|&word| word == FREE));
+    for text in ["", "3", "3\n0  1\n", "3\n0 1 ", "3\n01\n", "3 4\n", "3\n\n", "8\n0 1 2 3 4 5 6 7\n", "600\n5 x\n"] {
+        assert_eq!(table.import(text), Err(Refusal::BadText), "{text:?}");
+    }
+    for text in ["3\n1 1\n", "3\n3\n", "0\n0\n", "70000\n69999 70000\n"] {
+        assert_eq!(table.import(text), Err(Refusal::BadIndex), "{text:?}");
+    }
+    assert_eq!(Table::over([0; 9]).import(""), Err(Refusal::Length));
+    assert_eq!(Table::from_list("513\n"), Err(Refusal::NoRoom));
+    assert_eq!(Table::from_list("512\n").unwrap().count().unwrap().holes[0], 512);
+}
+
+#[test]
+fn numbers_and_sentences_are_eighteen() {
     let mut sentences = std::collections::HashSet::new();
-    for number in 1..=16 {
+    for number in 1..=18 {
         let above = if number == 2 { 0x0009_0100 } else { 0x0009_0000 };
         let refusal = Refusal::answer(number | above).unwrap_err();
         assert_eq!(refusal.number(), number);
         sentences.insert(refusal.to_string());
     }
-    assert_eq!(sentences.len(), 16);
+    assert_eq!(sentences.len(), 18);
     assert_eq!(Refusal::RuleA { row: 9 }.to_string(), "the evidence breaks rule A in row 9");
 }
 

@@ -2,7 +2,7 @@
 
 use crate::model::breach::Kind;
 use crate::model::table::{Answer, Refusal, DIMENSIONS, FREE, RECORD};
-use crate::model::{building, compaction, evidence, reading, sketch, weld};
+use crate::model::{building, compaction, evidence, lists, reading, sketch, weld};
 
 /// What a value pointer refers to before the call. No accepted call answers these values.
 pub const BEFORE_8: u8 = 0x5A;
@@ -26,10 +26,11 @@ pub enum Call {
     Read { file: Vec<u8> },
     Compact { list: Vec<u16> },
     Weld { a: u16, b: u16 },
+    Import { text: Vec<u8> },
 }
 
 /// The names of the calls and the refusals that 01 and 02 give each of them.
-pub const NAMES: [(&str, &[u32]); 14] = [
+pub const NAMES: [(&str, &[u32]); 15] = [
     ("empty", &[1]),
     ("audit", &[1, 2]),
     ("cone", &[1, 2, 3, 7, 8, 9]),
@@ -44,6 +45,7 @@ pub const NAMES: [(&str, &[u32]); 14] = [
     ("read", &[1, 2, 15, 16]),
     ("compact", &[1, 2]),
     ("weld", &[1, 2, 3, 4, 5]),
+    ("import", &[1, 9, 17, 18]),
 ];
 
 impl Call {
@@ -64,6 +66,15 @@ impl Call {
             Call::Read { .. } => 11,
             Call::Compact { .. } => 12,
             Call::Weld { .. } => 13,
+            Call::Import { .. } => 14,
+        }
+    }
+
+    /// The call for a reader: a part list as its text.
+    pub fn shown(&self) -> String {
+        match self {
+            Call::Import { text } => format!("Import of \"{}\"", text.escape_ascii()),
+            call => format!("{call:?}"),
         }
     }
 }
@@ -164,6 +175,7 @@ pub fn by_model(case: &Case) -> Outcome {
         Call::Write { target } => one(sketch::write(table, target).map(|length| length as i64), BEFORE_64),
         Call::Read { file } => plain(sketch::read(table, file)),
         Call::Compact { list } => plain(compaction::compact(table, list)),
+        Call::Import { text } => plain(lists::import(table, text)),
         Call::Weld { a, b } => one(weld::weld(table, *a, *b), BEFORE_16.into()),
     };
     Outcome { word, values, after, guard: None }

@@ -37,6 +37,7 @@ extern "C" {
     ) -> u32;
     fn bt_write(table: *const u16, words: usize, target: *mut u8, target_len: usize, written: *mut usize) -> u32;
     fn bt_read(table: *mut u16, words: usize, file: *const u8, file_len: usize) -> u32;
+    fn bt_import(table: *mut u16, words: usize, text: *const u8, text_len: usize) -> u32;
     fn bt_weld(table: *mut u16, words: usize, a: u16, b: u16, kept: *mut u16) -> u32;
     fn bt_compact(table: *mut u16, words: usize, list: *mut u16, list_len: usize) -> u32;
 }
@@ -104,6 +105,7 @@ impl Lent {
             Call::Reduce { evidence } | Call::Check { evidence } => bits = evidence,
             Call::Write { target } => bytes = target,
             Call::Read { file } => bytes = file,
+            Call::Import { text } => bytes = text,
             Call::Compact { list: l } => list = l,
             _ => {}
         }
@@ -147,6 +149,7 @@ impl Lent {
                 Call::Check { .. } => bt_check(table, words, bits, bit_words, short, self.holes.start()),
                 Call::Write { .. } => bt_write(table, words, bytes, length, long.cast()),
                 Call::Read { .. } => bt_read(table, words, bytes, length),
+                Call::Import { .. } => bt_import(table, words, bytes, length),
                 Call::Compact { .. } => bt_compact(table, words, self.list.start(), self.list.len()),
             }
         }
@@ -162,7 +165,7 @@ pub fn by_library(case: &Case) -> Outcome {
     let bits = lent.bits.end("marks or evidence", note);
     let chain = lent.chain.end("chain", note);
     let result = lent.result.end("result", note);
-    let bytes = lent.bytes.end("file", note);
+    let bytes = lent.bytes.end("file or text", note);
     let list = lent.list.end("list", note);
     let byte: Vec<i64> = widened(lent.byte_value.end("value", note));
     let short: Vec<i64> = widened(lent.short_values.end("value or cell counts", note));
@@ -190,6 +193,7 @@ pub fn by_library(case: &Case) -> Outcome {
         Call::Check { .. } => ([short, holes].concat(), Call::Check { evidence: bits }),
         Call::Write { .. } => (one_long(note), Call::Write { target: bytes }),
         Call::Read { .. } => (vec![], Call::Read { file: bytes }),
+        Call::Import { .. } => (vec![], Call::Import { text: bytes }),
         Call::Compact { .. } => (vec![], Call::Compact { list }),
         call @ (Call::Empty | Call::Audit) => (vec![], call),
     };

@@ -17,15 +17,17 @@ mod random;
 #[cfg(test)]
 mod tests;
 
-use std::io::Read;
+use std::io::{Read, Write};
 use std::path::Path;
 use std::process::ExitCode;
 
 const USAGE: &str = "\
 second holes < FILE                     prints what the program holes prints
+second parts < LIST                     prints what the program parts prints
 second cases                            checks the cases whose answers the request gives
 second sketches DIR                     writes example sketch files
 second program PATH [--seed S] [--files N]   runs the program holes on random files
+second lists PATH [--seed S] [--files N]     runs the program parts on random lists
 second compare [--seed S] [--calls N] [--trace]   compares the linked library with the model
 second compare --run S [--most N]       repeats one run of a comparison";
 
@@ -40,10 +42,11 @@ fn option(arguments: &[String], name: &str, default: u64) -> Result<u64, String>
     number.ok_or(format!("{name} needs a number"))
 }
 
-fn holes() -> Result<bool, String> {
+/// Answers standard input with what a program prints for it.
+fn print(printed: fn(&[u8]) -> Vec<u8>) -> Result<bool, String> {
     let mut input = vec![];
     std::io::stdin().read_to_end(&mut input).map_err(|fault| fault.to_string())?;
-    print!("{}", model::sketch::printed(&input));
+    std::io::stdout().write_all(&printed(&input)).map_err(|fault| fault.to_string())?;
     Ok(true)
 }
 
@@ -71,6 +74,7 @@ fn compare(arguments: &[String]) -> Result<bool, String> {
     println!("seed {seed}, {calls} calls");
     comparison.all_runs(seed, arguments.iter().any(|argument| argument == "--trace"))?;
     compare::damages::all(&mut comparison)?;
+    compare::lists::million(&mut comparison)?;
     let all_met = comparison.tally.print();
     println!("no difference in {} calls", comparison.made);
     if !all_met {
@@ -88,12 +92,14 @@ fn main() -> ExitCode {
     let arguments: Vec<String> = std::env::args().skip(1).collect();
     let words: Vec<&str> = arguments.iter().map(String::as_str).collect();
     let done = match words.as_slice() {
-        ["holes"] => holes(),
+        ["holes"] => print(|input| model::sketch::printed(input).into_bytes()),
+        ["parts"] => print(model::lists::parts),
         ["cases"] => Ok(cases::all(&runs())),
         ["sketches", folder] => examples::write(Path::new(folder)).map(|()| true).map_err(|fault| fault.to_string()),
-        ["program", path, ..] => option(&arguments, "--seed", SEED).and_then(|seed| {
-            let files = option(&arguments, "--files", 2_000)?;
-            program::run(path, seed, files as usize)
+        [name @ ("program" | "lists"), path, ..] => option(&arguments, "--seed", SEED).and_then(|seed| {
+            let files = option(&arguments, "--files", 2_000)? as usize;
+            let run = if *name == "program" { program::holes } else { program::parts };
+            run(path, seed, files)
         }),
         ["compare", ..] => compare(&arguments),
         _ => Err(USAGE.to_string()),

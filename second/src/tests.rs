@@ -1,6 +1,7 @@
 //! Unit tests of the model: the cases of 01, its file, and small properties on random tables.
 
 mod compaction;
+mod lists;
 mod weld;
 
 use crate::call::by_model;

@@ -4,7 +4,7 @@ use Prim.Native.Nat.{_≤_, _<_}
 use native.Mathlib.Omega.{arith}
 use Rattle.calls.specs.Numbers.{numberOf}
 use Rattle.calls.specs.declared.Refusal.{Refusal}
-use Rattle.calls.specs.declared.Refusal.the-variants.{Length, Invalid, NotLive, SameCell, DimensionsDiffer, FacesDiffer, NotClosed, TopMarked, NoRoom, TooLarge, Misplaced, NoSuchPlace, RuleA, RuleB, BadContents, BadNumber}
+use Rattle.calls.specs.declared.Refusal.the-variants.{Length, Invalid, NotLive, SameCell, DimensionsDiffer, FacesDiffer, NotClosed, TopMarked, NoRoom, TooLarge, Misplaced, NoSuchPlace, RuleA, RuleB, BadContents, BadNumber, BadText, BadIndex}
 
 pub number-above-zero : (r : Refusal) → 0 < numberOf r
 number-above-zero Length = omega arith
@@ -23,9 +23,11 @@ number-above-zero (RuleA c) = omega arith
 number-above-zero (RuleB c) = omega arith
 number-above-zero BadContents = omega arith
 number-above-zero BadNumber = omega arith
+number-above-zero BadText = omega arith
+number-above-zero BadIndex = omega arith
 
 -- and none has more than two digits
-pub number-small : (r : Refusal) → numberOf r ≤ 16
+pub number-small : (r : Refusal) → numberOf r ≤ 18
 number-small Length = omega arith
 number-small (Invalid b) = omega arith
 number-small NotLive = omega arith
@@ -42,3 +44,5 @@ number-small (RuleA c) = omega arith
 number-small (RuleB c) = omega arith
 number-small BadContents = omega arith
 number-small BadNumber = omega arith
+number-small BadText = omega arith
+number-small BadIndex = omega arith

@@ -12,7 +12,7 @@ use Rattle.calls.specs.Packed.{breachBits, packedOf, BreachFits, WordFit
 use Rattle.calls.specs.declared.Breach.{Breach}
 use Rattle.calls.specs.declared.Breach.the-variants.{Record, Face, Law}
 use Rattle.calls.specs.declared.Refusal.{Refusal}
-use Rattle.calls.specs.declared.Refusal.the-variants.{Length, Invalid, NotLive, SameCell, DimensionsDiffer, FacesDiffer, NotClosed, TopMarked, NoRoom, TooLarge, Misplaced, NoSuchPlace, RuleA, RuleB, BadContents, BadNumber}
+use Rattle.calls.specs.declared.Refusal.the-variants.{Length, Invalid, NotLive, SameCell, DimensionsDiffer, FacesDiffer, NotClosed, TopMarked, NoRoom, TooLarge, Misplaced, NoSuchPlace, RuleA, RuleB, BadContents, BadNumber, BadText, BadIndex}
 
 -- a breach has no bit of the number
 breach-above : (b : Breach) → breachBits b % 256 ≡ 0
@@ -37,6 +37,8 @@ number-in-word (RuleA c) = omega arith
 number-in-word (RuleB c) = omega arith
 number-in-word BadContents = refl
 number-in-word BadNumber = refl
+number-in-word BadText = refl
+number-in-word BadIndex = refl
 
 pub word-above-zero : (r : Refusal) → 0 < packedOf r
 word-above-zero r = omega (arith, number-above-zero r, number-in-word r)
@@ -67,7 +69,9 @@ refusalIn n w =
     (pick (eqb n 13) (RuleA (w / 65536))
     (pick (eqb n 14) (RuleB (w / 65536))
     (pick (eqb n 15) BadContents
-    BadNumber))))))))))))))
+    (pick (eqb n 16) BadNumber
+    (pick (eqb n 17) BadText
+    BadIndex))))))))))))))))
 
 abbrev told : ℕ → Refusal
 told w = refusalIn (w % 256) w
@@ -105,6 +109,8 @@ word-back (RuleA c) f = ap (λ n. refusalIn n (packedOf (RuleA c))) (number-in-w
 word-back (RuleB c) f = ap (λ n. refusalIn n (packedOf (RuleB c))) (number-in-word (RuleB c)) ∙ ap RuleB (omega arith)
 word-back BadContents f = refl
 word-back BadNumber f = refl
+word-back BadText f = refl
+word-back BadIndex f = refl
 
 pub word-tells : (r r′ : Refusal) → WordFits r → WordFits r′ → packedOf r ≡ packedOf r′ → r ≡ r′
 word-tells r r′ f f′ e = sym (word-back r f) ∙ ap told e ∙ word-back r′ f′

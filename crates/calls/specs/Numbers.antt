@@ -2,7 +2,7 @@
 -- A reader must believe these definitions; nothing here is proved.
 use Prim.Native.Nat.{ℕ}
 use Rattle.calls.specs.declared.Refusal.{Refusal}
-use Rattle.calls.specs.declared.Refusal.the-variants.{Length, Invalid, NotLive, SameCell, DimensionsDiffer, FacesDiffer, NotClosed, TopMarked, NoRoom, TooLarge, Misplaced, NoSuchPlace, RuleA, RuleB, BadContents, BadNumber}
+use Rattle.calls.specs.declared.Refusal.the-variants.{Length, Invalid, NotLive, SameCell, DimensionsDiffer, FacesDiffer, NotClosed, TopMarked, NoRoom, TooLarge, Misplaced, NoSuchPlace, RuleA, RuleB, BadContents, BadNumber, BadText, BadIndex}
 
 abbrev pub numberOf : Refusal → ℕ
 numberOf Length = 1
@@ -21,3 +21,5 @@ numberOf (RuleA c) = 13
 numberOf (RuleB c) = 14
 numberOf BadContents = 15
 numberOf BadNumber = 16
+numberOf BadText = 17
+numberOf BadIndex = 18

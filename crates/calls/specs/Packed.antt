@@ -6,7 +6,7 @@ use Prim.{Unit}
 use Rattle.calls.specs.declared.Breach.{Breach}
 use Rattle.calls.specs.declared.Breach.the-variants.{Record, Face, Law}
 use Rattle.calls.specs.declared.Refusal.{Refusal}
-use Rattle.calls.specs.declared.Refusal.the-variants.{Length, Invalid, NotLive, SameCell, DimensionsDiffer, FacesDiffer, NotClosed, TopMarked, NoRoom, TooLarge, Misplaced, NoSuchPlace, RuleA, RuleB, BadContents, BadNumber}
+use Rattle.calls.specs.declared.Refusal.the-variants.{Length, Invalid, NotLive, SameCell, DimensionsDiffer, FacesDiffer, NotClosed, TopMarked, NoRoom, TooLarge, Misplaced, NoSuchPlace, RuleA, RuleB, BadContents, BadNumber, BadText, BadIndex}
 
 -- how many numbers a face place has room for, and a cell
 abbrev pub placeRoom : ℕ
@@ -54,6 +54,8 @@ packedOf (RuleA c) = 13 + inCell c
 packedOf (RuleB c) = 14 + inCell c
 packedOf BadContents = 15
 packedOf BadNumber = 16
+packedOf BadText = 17
+packedOf BadIndex = 18
 
 -- a breach that the word has room for: no remainder takes anything away
 abbrev pub BreachFits : Breach → Type 0
@@ -79,3 +81,5 @@ WordFits (RuleA c) = c < cellRoom
 WordFits (RuleB c) = c < cellRoom
 WordFits BadContents = Unit {0}
 WordFits BadNumber = Unit {0}
+WordFits BadText = Unit {0}
+WordFits BadIndex = Unit {0}

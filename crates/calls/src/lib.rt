@@ -31,6 +31,8 @@ pub enum Refusal {
     RuleB(u16),
     BadContents,
     BadNumber,
+    BadText,
+    BadIndex,
 }
 
 // The answer of a call that has no value of its own.
@@ -95,6 +97,8 @@ pub fn packed(r: Refusal) -> u32
         Refusal::RuleB(c) => 14 + c as u32 * CELL,
         Refusal::BadContents => 15,
         Refusal::BadNumber => 16,
+        Refusal::BadText => 17,
+        Refusal::BadIndex => 18,
     }
 }
 

@@ -37,6 +37,9 @@ use Rattle.corner.specs.Corner.{ownGrounds, cornerGrounds}
 use Rattle.reducer.specs.Reduce.{reduceVerdict}
 use Rattle.rows.specs.Rows.{evidenceWords}
 use Rattle.checker.specs.Check.{rowGrounds, allRows, evidenceFits, checkVerdict}
+use Rattle.calls.specs.Packed.{WordFits}
+use Rattle.lines.proofs.Decision.{reading}
+use Rattle.intake.specs.Import.{groundsBy, importVerdict}
 use Rattle.sketch.specs.Written.{fileOf, writeVerdict}
 use Rattle.sketch.specs.Read.{described, readGrounds, readVerdict}
 use Rattle.sketch.proofs.Described.{described-sized}
@@ -121,3 +124,9 @@ tells-read t f r s e =
         ),
       ),
     ) e
+
+-- taking a part list in gives no 2
+pub import-fits : (t text : List ℕ) (r : Refusal) → importVerdict t text ≡ Refused r → WordFits r
+unfolding importVerdict
+import-fits t text r e =
+    refused-has WordFits (groundsBy t (reading text)) r (λ on. tt, (λ on. tt, (λ on. tt, (λ on. tt, tt)))) e

@@ -13,7 +13,7 @@ use Rattle.reducer.specs.declared.Reduced.{Reduced}
 use Rattle.reducer.specs.Reduce.{Reduces, Reduction, reduceVerdict}
 use Rattle.reducer.proofs.OneOutcome.{one-reduction}
 use Rattle.kernel.specs.Face.{Fills}
-use Rattle.kernel.specs.Calls.{EmptyEnds, AuditEnds, ConeEnds, MergeEnds, WeldEnds, CompactEnds, IncidenceEnds, BoundaryEnds, CornerEnds, SheetEnds, ReduceEnds, CheckEnds, WriteEnds, ReadEnds}
+use Rattle.kernel.specs.Calls.{EmptyEnds, AuditEnds, ConeEnds, MergeEnds, WeldEnds, CompactEnds, IncidenceEnds, BoundaryEnds, CornerEnds, SheetEnds, ReduceEnds, CheckEnds, WriteEnds, ReadEnds, ImportEnds}
 
 -- a call that leaves a buffer and a value
 one-filling : {code value r r′ v v′ : ℕ} {left l l′ : List ℕ} → Fills code left value r l v → Fills code left value r′ l′ v′ → (r ≡ r′) × (l ≡ l′) × (v ≡ v′)
@@ -83,3 +83,6 @@ one-write t d l l′ o r r′ v v′ p q = one-filling p q
 
 pub one-read : (t f l l′ : List ℕ) (r r′ : ℕ) → ReadEnds t f r l → ReadEnds t f r′ l′ → (r ≡ r′) × (l ≡ l′)
 one-read t f l l′ r r′ p q = one-outcome p q
+
+pub one-import : (t text l l′ : List ℕ) (r r′ : ℕ) → ImportEnds t text r l → ImportEnds t text r′ l′ → (r ≡ r′) × (l ≡ l′)
+one-import t text l l′ r r′ p q = one-outcome p q

@@ -20,7 +20,9 @@ use Rattle.compaction.specs.Call.{Compacts}
 use Rattle.reducer.specs.Reduce.{Reduces, reduceVerdict}
 use Rattle.reducer.specs.declared.Reduced.{Reduced}
 use Rattle.writer.specs.declared.Written.{Written}
-use Rattle.kernel.specs.Face.{code, writtenCode, writtenValue, sevenAfter, Fills}
+use Rattle.calls.specs.declared.Named.{Named}
+use Rattle.calls.specs.declared.Named.the-variants.{NoCell}
+use Rattle.kernel.specs.Face.{code, namedCode, namedValue, writtenCode, writtenValue, sevenAfter, Fills}
 use Rattle.kernel.specs.Calls.{CompactEnds, CheckEnds, ReduceEnds}
 
 -- a verdict's code
@@ -31,6 +33,10 @@ coded e q = record { answer = q ∙ ap code (e .answer); left = e .left }
 pub told : {A B : Type 0} (codeOf : A → ℕ) (valueOf : A → B → B) (a a′ : A) (old v : B) (r : ℕ) → a ≡ a′ → r ≡ codeOf a′ → v ≡ valueOf a′ old → Ends (codeOf a) (valueOf a old) r v
 told codeOf valueOf a a′ old v r e q w =
     record { answer = q ∙ sym (ap codeOf e); left = w ∙ sym (ap (λ x. valueOf x old) e) }
+
+-- an answer that names no cell: the refusal's word, and the old value
+pub no-cell : (n : Named) (x : Refusal) (old r : ℕ) → n ≡ NoCell x → r ≡ packedOf x → Ends (namedCode n) (namedValue n old) r old
+no-cell n x old r e q = told namedCode namedValue n (NoCell x) old old r e q refl
 
 -- the same with the buffer that the call left
 pub filled : {A : Type 0} (codeOf : A → ℕ) (valueOf : A → ℕ → ℕ) (a a′ : A) (old v r : ℕ) (left l : List ℕ) → Ends a left a′ l → r ≡ codeOf a′ → v ≡ valueOf a′ old → Fills (codeOf a) left (valueOf a old) r l v

@@ -27,6 +27,7 @@ use Rattle.reducer.specs.Reduce.{Reduction, reduceVerdict}
 use Rattle.checker.specs.Check.{checkVerdict}
 use Rattle.writer.specs.Write.{writeAnswer, writeLeaves}
 use Rattle.sketch.specs.Read.{readVerdict, readLeaves}
+use Rattle.intake.specs.Import.{importVerdict, importLeaves}
 use Rattle.kernel.specs.Face.{code, namedCode, namedValue, sumCode, sumValue, judgedCode, judgedValue, writtenCode, writtenValue, sevenAfter, Fills}
 
 abbrev pub EmptyEnds : List ℕ → ℕ → List ℕ → Type 0
@@ -84,3 +85,6 @@ WriteEnds t target₀ written₀ r target written =
 
 abbrev pub ReadEnds : List ℕ → List ℕ → ℕ → List ℕ → Type 0
 ReadEnds t f r t′ = Ends (code (readVerdict t f)) (readLeaves t f) r t′
+
+abbrev pub ImportEnds : List ℕ → List ℕ → ℕ → List ℕ → Type 0
+ImportEnds t text r t′ = Ends (code (importVerdict t text)) (importLeaves t text) r t′

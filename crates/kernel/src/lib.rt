@@ -3,7 +3,7 @@
 ghost use mathlib.Core.Path.{_≡_};
 ghost use Rattle.calls.specs.Calls.{Ends};
 ghost use Rattle.kernel.specs.Face.{code, namedCode, namedValue};
-ghost use Rattle.kernel.specs.Calls.{EmptyEnds, AuditEnds, ConeEnds, MergeEnds, WeldEnds, CompactEnds, IncidenceEnds, BoundaryEnds, CornerEnds, SheetEnds, ReduceEnds, CheckEnds, WriteEnds, ReadEnds};
+ghost use Rattle.kernel.specs.Calls.{EmptyEnds, AuditEnds, ConeEnds, MergeEnds, WeldEnds, CompactEnds, IncidenceEnds, BoundaryEnds, CornerEnds, SheetEnds, ReduceEnds, CheckEnds, WriteEnds, ReadEnds, ImportEnds};
 use calls::Named;
 use calls::Verdict;
 use reading::Sum;
@@ -184,4 +184,11 @@ pub extern "C" fn bt_read(table: &mut [u16], file: &[u8]) -> u32
     ensures { λ r. ⌜ ReadEnds (now (table .entry)) (now (file .entry)) r (now (table .exit)) ⌝ }
 {
     code_of(reader::read(table, file))
+}
+
+#[no_mangle]
+pub extern "C" fn bt_import(table: &mut [u16], text: &[u8]) -> u32
+    ensures { λ r. ⌜ ImportEnds (now (table .entry)) (now (text .entry)) r (now (table .exit)) ⌝ }
+{
+    code_of(intake::import(table, text))
 }

@@ -103,7 +103,7 @@ fn lines(cells: [u16; Table::DIMENSIONS], holes: [u16; Table::DIMENSIONS]) -> Te
 }
 
 // The word of a refusal and its number.
-fn refused(why: Refusal) -> Text
+pub fn refused(why: Refusal) -> Text
     ensures { λ r. ⌜ textOf r ≡ refusedLine (numberOf why) ⌝ }
     ensures { λ r. ⌜ (r .len < room) × ZerosAfter r ⌝ }
 {

@@ -2,6 +2,7 @@
 
 mod breach;
 mod compaction;
+mod lists;
 mod measured;
 mod weld;
 
@@ -55,7 +56,7 @@ impl Bench {
 
     /// The word of the answer: 0, or the refusal's number with what it carries.
     pub fn word(&mut self, call: Call, wanted: u32) -> Verdict {
-        let what = format!("answer of {call:?}");
+        let what = format!("answer of {}", call.shown());
         same(&what, taken_apart(self.call(call).word), taken_apart(wanted))
     }
 
@@ -108,7 +109,7 @@ pub type Titled = (&'static str, fn(Run) -> Verdict);
 
 /// All cases.
 pub fn titled() -> Vec<Titled> {
-    [measured::ALL, breach::ALL, compaction::ALL, weld::ALL].concat()
+    [measured::ALL, breach::ALL, compaction::ALL, weld::ALL, lists::ALL].concat()
 }
 
 /// Runs all cases with each of the named runs; one line for each case. Answers whether all held.

@@ -1,9 +1,11 @@
 //! Random calls on a given table: mostly such that would be accepted on a valid one, with single faults and several at once.
 
 use super::files::random_file;
+use super::lists::random_list;
 use super::tables::*;
 use crate::call::{Call, Case};
 use crate::model::evidence::reduce;
+use crate::model::lists::cells_of;
 use crate::model::reading::LIMIT;
 use crate::model::sketch::LONGEST;
 use crate::model::table::*;
@@ -12,21 +14,32 @@ use crate::random::Random;
 /// A random call on the table, which may be damaged; now and then a buffer has a wrong length.
 pub fn random_case(random: &mut Random, words: &[u16]) -> Case {
     let table = Table::decode(words).ok();
-    let place = random.pick(&[0, 1, 2, 2, 3, 3, 4, 4, 5, 5, 5, 6, 6, 7, 7, 8, 9, 9, 9, 10, 11, 11, 11, 12, 13, 13]);
+    let place =
+        random.pick(&[0, 1, 2, 2, 3, 3, 4, 4, 5, 5, 5, 6, 6, 7, 7, 8, 9, 9, 9, 10, 11, 11, 11, 12, 13, 13, 14, 14]);
     let call = random_call(random, words, table.as_ref(), place);
     let mut case = Case { table: words.to_vec(), call };
-    if let Call::Read { file } = &case.call {
-        // The table mostly has the file's N, and any old contents.
-        if file.len() >= 2 && !random.once_in(8) {
-            let room = u16::from_le_bytes([file[0], file[1]]) as usize;
-            case.table = vec![0; room.clamp(1, MOST) * RECORD];
-        }
-        case.table.iter_mut().for_each(|word| *word = random.word());
+    if matches!(case.call, Call::Read { .. } | Call::Import { .. }) {
+        // The table mostly fits what is read, and has any old contents.
+        let room = fitting_room(random, &case.call).filter(|_| !random.once_in(8));
+        let length = room.map_or(words.len(), |room| room.clamp(1, MOST) * RECORD);
+        case.table = (0..length).map(|_| random.word()).collect();
     }
     if random.once_in(14) {
         wrong_length(random, &mut case);
     }
     case
+}
+
+/// The N of a file; for a list one that it just fills, that is too small by one, or that has room to spare.
+fn fitting_room(random: &mut Random, call: &Call) -> Option<usize> {
+    match call {
+        Call::Read { file } => Some(u16::from_le_bytes([*file.first()?, *file.get(1)?]).into()),
+        Call::Import { text } => {
+            let cells = cells_of(MOST, text).ok()?.len();
+            Some(random.pick(&[cells, cells.saturating_sub(1), cells + 1, MOST]))
+        }
+        _ => None,
+    }
 }
 
 /// The call at that place of `NAMES`.
@@ -67,7 +80,11 @@ pub fn random_call(random: &mut Random, words: &[u16], table: Option<&Table>, pl
             Call::Read { file: random_file(random, room) }
         }
         12 => Call::Compact { list: (0..room).map(|_| random.word()).collect() },
-        _ => weld(random, room, table),
+        13 => weld(random, room, table),
+        _ => {
+            let other = random_room(random, MOST);
+            Call::Import { text: random_list(random, other) }
+        }
     }
 }
 

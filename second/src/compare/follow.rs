@@ -1,7 +1,9 @@
 //! What 01 and 02 state of an accepted call, beyond its answer: tried with further calls on what it left.
 
+use super::lists::rewritten;
 use super::runs::{shown, Comparison, Difference};
 use crate::call::{Call, Case, Outcome};
+use crate::model::lists::cells_of;
 use crate::model::ranks;
 use crate::model::table::*;
 use crate::model::weld::kept_numbers;
@@ -49,6 +51,10 @@ impl Comparison {
                 hold(case, found.eq(holes.map(i64::from).iter()), "the hole numbers are those of the ranks")
             }
             Call::Write { .. } | Call::Read { .. } => self.there_and_back(case, outcome),
+            Call::Import { text } => {
+                self.stays_valid(case, outcome)?;
+                self.as_listed(case, outcome, text)
+            }
             Call::Compact { list } => {
                 self.stays_valid(case, outcome)?;
                 self.once_more(case, outcome)?;
@@ -110,6 +116,24 @@ impl Comparison {
             let after = self.call(&Case { table: compacted.to_vec(), call: Call::Incidence { cell, face } })?;
             let same = (before.word, before.values) == (after.word, after.values);
             hold(case, same, "incidence is the same under the list")?;
+        }
+        Ok(())
+    }
+
+    /// A list is the same in any order of its lines and indices, and corner k of a cell is entry k of its corner list.
+    fn as_listed(&mut self, case: &Case, outcome: &Outcome, text: &[u8]) -> Result<(), Difference> {
+        let table = outcome.after.table.clone();
+        let random = &mut Random::new(text.iter().map(|byte| u64::from(*byte)).sum());
+        let text = rewritten(random, text);
+        let again = self.call(&Case { table: case.table.clone(), call: Call::Import { text: text.clone() } })?;
+        hold(case, again.word == 0 && again.after.table == table, "the order of lines and indices is free")?;
+        let cells: Vec<(usize, Vec<u32>)> = cells_of(MOST, &text).into_iter().flatten().collect();
+        for _ in 0..cells.len().min(2) {
+            let cell = random.below(cells.len());
+            let k = random.below(cells[cell].1.len());
+            let call = Call::Corner { cell: cell as u16, k: k as u16 };
+            let corner = self.call(&Case { table: table.clone(), call })?;
+            hold(case, corner.values == [i64::from(cells[cell].1[k])], "corner k is entry k of the list")?;
         }
         Ok(())
     }

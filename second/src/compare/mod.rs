@@ -6,6 +6,7 @@ pub mod calls;
 pub mod damages;
 pub mod files;
 pub mod follow;
+pub mod lists;
 pub mod runs;
 pub mod shrink;
 pub mod tables;

@@ -2,6 +2,7 @@
 
 use super::broken::{damage, one_breach};
 use super::calls::{random_call, random_case};
+use super::lists::{random_lines, text_of};
 use super::shrink::shrink;
 use super::tables::{random_room, random_table};
 use super::tally::Tally;
@@ -59,12 +60,18 @@ impl Comparison {
         }
     }
 
-    /// A table from its emptying, or now and then a random one, through cones, merges, welds and compactions, with calls of all kinds between them.
+    /// A table from its emptying, or now and then a random one or an imported list, through cones, merges, welds and compactions, with calls of all kinds between them.
     fn session(&mut self, random: &mut Random, room: usize) -> Result<(), Difference> {
         let old = (0..room * RECORD).map(|_| random.word()).collect();
         let mut table = self.call_and_follow(&Case { table: old, call: Call::Empty })?.after.table;
-        if random.once_in(3) {
-            table = random_table(random, room);
+        match random.below(6) {
+            0 | 1 => table = random_table(random, room),
+            2 => {
+                let (count, lines) = random_lines(random, room);
+                let call = Call::Import { text: text_of(count, &lines) };
+                table = self.call_and_follow(&Case { table, call })?.after.table;
+            }
+            _ => {}
         }
         for _ in 0..random.between(3, 30) {
             let place = random.pick(&[2, 2, 2, 2, 3, 3, 12, 13, 13]);
@@ -112,7 +119,7 @@ impl Comparison {
 }
 
 pub fn shown(case: &Case) -> String {
-    format!("{}  {:?}\n", described(&case.table), case.call)
+    format!("{}  {}\n", described(&case.table), case.call.shown())
 }
 
 /// A difference in words: the case, and what each of the two left where they differ.

@@ -28,7 +28,7 @@ pub fn shrink(case: &Case, differs: &dyn Fn(&Case) -> bool) -> Case {
 
 /// Cases a little smaller than the given one.
 fn candidates(case: &Case) -> Vec<Case> {
-    let mut list = vec![];
+    let mut list = shorter_texts(case);
     let room = case.table.len() / RECORD;
     if case.table.len() == room * RECORD {
         for smaller in [room / 2, room.saturating_sub(1)] {
@@ -54,6 +54,22 @@ fn candidates(case: &Case) -> Vec<Case> {
         }
     }
     list
+}
+
+/// The same case with less of its part list: half of its lines, then all but one line, then all but one byte.
+fn shorter_texts(case: &Case) -> Vec<Case> {
+    let Call::Import { text } = &case.call else { return vec![] };
+    let lines: Vec<&[u8]> = text.split_inclusive(|byte| *byte == b'\n').collect();
+    let half = lines.len() / 2;
+    let mut texts = vec![lines[..half].concat(), [&lines[..lines.len().min(1)], &lines[half..]].concat().concat()];
+    if lines.len() < 200 {
+        texts.extend((0..lines.len()).map(|i| [&lines[..i], &lines[i + 1..]].concat().concat()));
+    }
+    if text.len() < 200 {
+        texts.extend((0..text.len()).map(|i| [&text[..i], &text[i + 1..]].concat()));
+    }
+    texts.retain(|shorter| shorter.len() < text.len());
+    texts.into_iter().map(|text| Case { table: case.table.clone(), call: Call::Import { text } }).collect()
 }
 
 /// The same case with fewer records, where all buffers have the stated lengths.

@@ -1,6 +1,8 @@
 //! Random valid tables: built by calls of the model, or written by hand.
 
+use super::lists::{random_lines, text_of};
 use crate::model::building;
+use crate::model::lists;
 use crate::model::table::*;
 use crate::random::Random;
 use std::collections::BTreeSet;
@@ -26,11 +28,12 @@ pub fn random_room(random: &mut Random, most: usize) -> usize {
 
 /// A random valid table of that N.
 pub fn random_table(random: &mut Random, room: usize) -> Vec<u16> {
-    let mut words = match random.below(6) {
+    let mut words = match random.below(7) {
         0 => tower(random, room),
         1 => by_cones(random, room),
         2 => simplex(random, room),
         3 => simplices(random, room),
+        4 => by_list(random, room),
         _ => by_hand(random, room),
     };
     for _ in 0..random.below(3) {
@@ -135,6 +138,20 @@ fn simplices(random: &mut Random, room: usize) -> Vec<u16> {
     let number = numbers(random, room);
     for own in number.chunks((1 << corners) - 1 + usize::from(corners == 0)).take(count) {
         put_simplex(&mut table, own, corners, 1 << corners);
+    }
+    table.encode()
+}
+
+/// The cells of a part list, renumbered: simplices with sides in common. Of a list that has too many cells, none.
+fn by_list(random: &mut Random, room: usize) -> Vec<u16> {
+    let (count, lines) = random_lines(random, room);
+    let mut words = vec![FREE; room * RECORD];
+    let _ = lists::import(&mut words, &text_of(count, &lines));
+    let number = numbers(random, room);
+    let mut table = Table { cells: vec![None; room] };
+    for (old, cell) in Table::decode(&words).expect("a valid table").live() {
+        let faces = cell.faces.iter().map(|face| number[*face as usize]).collect();
+        table.cells[number[old as usize] as usize] = Some(Cell { dimension: cell.dimension, faces });
     }
     table.encode()
 }

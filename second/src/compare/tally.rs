@@ -3,7 +3,7 @@
 use crate::call::{Call, Outcome, NAMES};
 
 /// The largest number of a refusal.
-const LAST: usize = 16;
+const LAST: usize = 18;
 const KINDS: [&str; 4] = ["", "record", "face", "law"];
 
 pub struct Tally {

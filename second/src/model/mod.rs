@@ -7,6 +7,7 @@ pub mod breach;
 pub mod building;
 pub mod compaction;
 pub mod evidence;
+pub mod lists;
 pub mod ranks;
 pub mod reading;
 pub mod sketch;

@@ -1,0 +1,38 @@
+-- `take_line` meets its contract: the sorted numbers are the record of the line's cell. Assumes nothing.
+use borrow.Author.Needs.{needs}
+use mathlib.Core.Path.{_≡_, refl, sym, ap, _∙_}
+use Prim.Native.Nat.{ℕ, suc, _+_, _-_, _*_, _≤_, _<_}
+use native.Mathlib.Omega.{arith}
+use lib.ListN.{length, getD, take, drop}
+use borrow.Author.Needs.{needs}
+use Rattle.intake.proofs.take_line.Statement.{statement}
+use Rattle.intake.proofs.take_line.Tie as tie
+use Rattle.intake.proofs.take_line.Reads as reads
+use Rattle.intake.proofs.take_line.Lts as lts
+use Rattle.corners.proofs.sorted.Reads as sorted-reads
+use Rattle.corners.proofs.take_in.Reads as take-in-reads
+
+sorted-requires : tie.Need-sorted-requires
+sorted-requires c κs = search needs
+
+sub-take-in : tie.Need-sub-take-in
+sub-take-in c = search needs
+
+cast-take-in : tie.Need-cast-take-in
+cast-take-in c = search needs
+
+take-in-requires : tie.Need-take-in-requires
+take-in-requires c κs = search needs
+
+same-length : tie.Need-same-length
+same-length c = search needs
+
+returns : tie.Need-returns
+returns c =
+    let a = c .before .before in
+    record { taken = λ n cs e k. a .take-in .ensures .taken n cs _ e k (a .before .before .sorted .ensures) }
+
+pub take-line-spec : {M : Type 1} → statement M
+take-line-spec =
+    tie.close
+    (tie.spec sorted-requires sub-take-in cast-take-in take-in-requires same-length returns)

@@ -1,0 +1,76 @@
+-- `fits` meets its contract. The invariant: the numbers passed fit. The measure: the numbers left. Assumes nothing.
+use borrow.Author.Needs.{needs}
+use mathlib.Core.Path.{_≡_, refl, sym, ap, _∙_}
+use Prim.Native.Nat.{ℕ, suc, _+_, _-_, _*_, _≤_, _<_}
+use native.Mathlib.Omega.{arith}
+use lib.ListN.{length, getD, take, drop}
+use Rattle.partlist.proofs.Indices.{FitBelow, fit-none, fit-more, too-large, not-once, taken-fits, taken-unfit}
+use Rattle.lines.proofs.fits.Statement.{statement}
+use Rattle.lines.proofs.fits.Tie as tie
+use Rattle.lines.proofs.fits.Reads as reads
+use Rattle.lines.proofs.fits.Lts as lts
+use Rattle.lines.proofs.repeated.Reads as repeated-reads
+
+abbrev Inv-loop : tie.InvT-loop
+Inv-loop count n numbers i₀ i = (i ≤ count) × FitBelow n numbers i
+
+abbrev μ-loop : tie.MeasureT-loop
+μ-loop count n numbers i₀ i = count - i
+
+loop-holds : tie.Need-loop-holds Inv-loop μ-loop
+loop-holds c = (omega arith, fit-none _ _)
+
+mul-if1 : tie.Need-mul-if1 Inv-loop μ-loop
+mul-if1 c = search needs
+
+array-read-if1 : tie.Need-array-read-if1 Inv-loop μ-loop
+array-read-if1 c = search needs
+
+-- the array has room for them
+few : (s : tie.Start Inv-loop μ-loop) → s .args .count ≤ length (s .args .t1)
+few s = search needs
+
+returns : tie.Need-returns Inv-loop μ-loop
+returns c = taken-unfit _ _ _ (few (c .before .before .before)) (c .before .before .loop .i) (c .before .loop-test .taken) (too-large _ _ _ (c .if1 .taken))
+
+repeated-requires : tie.Need-repeated-requires Inv-loop μ-loop
+repeated-requires c κs = search needs
+
+returns-2 : tie.Need-returns-2 Inv-loop μ-loop
+returns-2 c =
+    let e = c .before .before in
+    let l = e .before .before in
+    taken-unfit _ _ _ (few (l .before)) (l .loop .i) (e .before .loop-test .taken)
+    (not-once _ _ _ (e .if1 .left) (sym (c .if2 .taken) ∙ c .before .repeated .ensures))
+
+add-i : tie.Need-add-i Inv-loop μ-loop
+add-i c = search needs
+
+loop-less : tie.Need-loop-less Inv-loop μ-loop
+loop-less c = search needs
+
+loop-again : tie.Need-loop-again Inv-loop μ-loop
+loop-again c =
+    let e = c .before .before in
+    let l = e .before .before .loop in
+    (omega arith, fit-more _ _ _ (l .inv .1) (e .if1 .left) (sym (c .if2 .left) ∙ c .before .repeated .ensures))
+
+returns-3 : tie.Need-returns-3 Inv-loop μ-loop
+returns-3 c = taken-fits _ _ _ (few (c .before .before)) (c .before .loop .i) (c .loop-test .left) (c .before .loop .inv .1)
+
+pub fits-spec : {M : Type 1} → statement M
+fits-spec =
+    tie.close
+    (tie.spec
+    Inv-loop
+    μ-loop
+    loop-holds
+    mul-if1
+    array-read-if1
+    returns
+    repeated-requires
+    returns-2
+    add-i
+    loop-less
+    loop-again
+    returns-3)

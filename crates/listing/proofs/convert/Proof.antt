@@ -1,0 +1,83 @@
+-- `convert` meets its contract: an accepted list leaves a valid table, which is written; else the refusal's line. Assumes nothing.
+use borrow.Author.Needs.{needs}
+use mathlib.Core.Path.{_≡_, refl, sym, ap, _∙_}
+use Prim.Native.Nat.{ℕ, suc, _+_, _-_, _*_, _≤_, _<_}
+use native.Mathlib.Omega.{arith}
+use lib.ListN.{length, getD, take, drop}
+use borrow.Author.Needs.{needs}
+use Rattle.listing.proofs.Fronts.{blank-verdict, blank-left, blank-valid, converted-file, converted-line}
+use Rattle.listing.proofs.convert.Statement.{statement}
+use Rattle.listing.proofs.convert.Tie as tie
+use Rattle.listing.proofs.convert.Reads as reads
+use Rattle.listing.proofs.convert.Lts as lts
+use Rattle.intake.proofs.import.Reads as import-reads
+use Rattle.listing.proofs.put_file.Reads as put-file-reads
+use Rattle.listing.proofs.put_line.Reads as put-line-reads
+
+import-requires : tie.Need-import-requires
+import-requires c κs = search needs
+
+enum-told : tie.Need-enum-told
+enum-told c = search needs
+
+-- where the function starts
+abbrev asked : tie.After-import → tie.Start
+asked i = i .before .before .before .before .before
+
+put-file-requires : tie.Need-put-file-requires
+put-file-requires c κs =
+    let a = c .before .before in
+    let i = a .before .before .before .before in
+    let s = asked i in
+    (blank-valid _ _ _ _ (s .pre .0) (i .import .ensures) (a .enum-told .given .1), s .pre .1)
+
+enum-known-verdict : tie.Need-enum-known-verdict
+enum-known-verdict c = search needs
+
+put-line-requires : tie.Need-put-line-requires
+put-line-requires c κs = search needs
+
+same-length : tie.Need-same-length
+same-length c = search needs
+
+same-length-2 : tie.Need-same-length-2
+same-length-2 c = search needs
+
+returns : tie.Need-returns
+returns c =
+    let f = c .before .before in
+    let a = f .before .before .before in
+    let i = a .before .before .before .before in
+    let s = asked i in
+    let e = i .import .ensures in
+    converted-file _ _ _ _ (sym (blank-verdict _ _ _ _ (s .pre .0) e) ∙ a .enum-told .given .1) (blank-left _ _ _ _ (s .pre .0) e) (f .put-file .ensures)
+
+same-length-3 : tie.Need-same-length-3
+same-length-3 c = search needs
+
+same-length-4 : tie.Need-same-length-4
+same-length-4 c = search needs
+
+returns-2 : tie.Need-returns-2
+returns-2 c =
+    let p = c .before .before in
+    let v = p .before .before .before in
+    let i = v .before .before .before .before in
+    let s = asked i in
+    converted-line _ _ _ _ (sym (blank-verdict _ _ _ _ (s .pre .0) (i .import .ensures)) ∙ v .verdict .given .1) (p .put-line .ensures)
+
+pub convert-spec : {M : Type 1} → statement M
+convert-spec =
+    tie.close
+    (tie.spec
+    import-requires
+    enum-told
+    put-file-requires
+    enum-known-verdict
+    put-line-requires
+    same-length
+    same-length-2
+    returns
+    same-length-3
+    same-length-4
+    returns-2)

@@ -1,0 +1,51 @@
+-- `listing` meets its contract: a text that is too long, and one that is taken into a blank table. Assumes nothing.
+use borrow.Author.Needs.{needs}
+use mathlib.Core.Path.{_≡_, refl, sym, ap, _∙_}
+use Prim.Native.Nat.{ℕ, suc, _+_, _-_, _*_, _≤_, _<_}
+use native.Mathlib.Omega.{arith}
+use lib.ListN.{length, getD, take, drop}
+use borrow.Author.Needs.{needs}
+use Rattle.listing.proofs.Fronts.{lists-long, lists-short}
+use Rattle.listing.proofs.listing.Statement.{statement}
+use Rattle.listing.proofs.listing.Tie as tie
+use Rattle.listing.proofs.listing.Reads as reads
+use Rattle.listing.proofs.listing.Lts as lts
+use Rattle.listing.proofs.convert.Reads as convert-reads
+use Rattle.listing.proofs.put_line.Reads as put-line-reads
+
+put-line-requires : tie.Need-put-line-requires
+put-line-requires c κs = search needs
+
+same-length : tie.Need-same-length
+same-length c = search needs
+
+returns : tie.Need-returns
+returns c =
+    let p = c .before .before in
+    (lists-long _ _ _ (p .before .before .if1 .taken) (p .put-line .ensures), p .put-line .ensures .short)
+
+slice-aggregate-convert : tie.Need-slice-aggregate-convert
+slice-aggregate-convert c = search needs
+
+convert-requires : tie.Need-convert-requires
+convert-requires c κs = search needs
+
+same-length-2 : tie.Need-same-length-2
+same-length-2 c = search needs
+
+returns-2 : tie.Need-returns-2
+returns-2 c =
+    let v = c .before .before .before in
+    (lists-short _ _ _ (v .before .before .before .if1 .left) (v .convert .ensures), v .convert .ensures .short)
+
+pub listing-spec : {M : Type 1} → statement M
+listing-spec =
+    tie.close
+    (tie.spec
+    put-line-requires
+    same-length
+    returns
+    slice-aggregate-convert
+    convert-requires
+    same-length-2
+    returns-2)

@@ -1,0 +1,16 @@
+pub mod Numerals
+pub mod Reading
+pub mod Sorting
+pub mod Dictionary
+pub mod Placing
+pub mod Parts
+pub mod Without
+pub mod CellList
+pub mod ListTable
+pub mod Sweep
+pub mod Swept
+pub mod Gathering
+pub mod Worked
+pub mod Indices
+pub mod Corners
+pub mod Described
