@@ -17,7 +17,9 @@ WORD = re.compile(r"[^\s(){},;.`]+")
 
 
 def lone_laws():
-    """Public laws of proofs/ that nothing names, not even their own file outside their own lines, and that no promise cites."""
+    """Public laws of proofs/ that no promise cites and that no other file names: a law that its own file uses is private to it, and
+    one that nothing uses goes. (The fields of a record are no laws;
+    and what a public ruleset lists goes out with it.)"""
     texts = {}
     for path in glob.glob("crates/**/*.antt", recursive=True) + glob.glob("crates/**/*.rt", recursive=True):
         texts[path] = open(path, encoding="utf-8").read().split("\n")
@@ -28,13 +30,27 @@ def lone_laws():
                 named.setdefault(word, []).append((path, line))
     promised = set(re.findall(r"`([^`:]+):([^`]+)`", open("docs/PROMISES.md", encoding="utf-8").read()))
     for path in sorted(p for p in texts if "/proofs/" in p and p.endswith(".antt") and not p.endswith("/Proof.antt")):
+        fields = None
         for line in texts[path]:
+            indent = len(line) - len(line.lstrip())
+            if re.match(r"\s*(pub )?record .* where$", line):
+                fields = indent
+            elif line.strip() and fields is not None and indent <= fields:
+                fields = None
             found = re.match(r"(\s*)pub ([^\s:(]+) :", line)
-            if not found or (path, found.group(2)) in promised:
+            if not found or fields is not None or (path, found.group(2)) in promised:
                 continue
-            own = re.compile(found.group(1) + r"(pub )?" + re.escape(found.group(2)) + r"(\s|$)")
-            if not any(at != path or not own.match(other) for at, other in named[found.group(2)]):
-                yield "%s: nothing cites %s" % (path, found.group(2))
+            name = found.group(2)
+            own = re.compile(found.group(1) + r"(pub )?" + re.escape(name) + r"(\s|$)")
+            if any(at != path or other.startswith("pub ruleset ") for at, other in named[name]):
+                continue
+            # what another public signature of the file names must be public itself
+            if any(not own.match(other) and re.match(r"\s*pub ", other) for at, other in named[name]):
+                continue
+            if any(not own.match(other) for at, other in named[name]):
+                yield "%s: %s is public, and only its own file names it" % (path, name)
+            else:
+                yield "%s: nothing cites %s" % (path, name)
 
 
 def edit_names():

@@ -94,7 +94,7 @@ one-first t b b′ f g =
     (λ h. ⊎-elim (key-tells b b′) (λ k. absurd (f .first b′ (g .breach) k)) h)
     (before-same-after (key b) (key b′))
 
-pub breach-inside : (t : List ℕ) (b : Breach) → IsBreach t b → cellOf b < cellsOf t
+breach-inside : (t : List ℕ) (b : Breach) → IsBreach t b → cellOf b < cellsOf t
 breach-inside t b (no-kind i h k) = i
 breach-inside t b (stray i s) = i
 breach-inside t b (no-face v h k) = v .inside

@@ -14,7 +14,7 @@ use Rattle.audit.specs.declared.Found.{Found}
 use Rattle.audit.specs.declared.Found.the-variants.{Sound, Broken}
 
 -- a breach comes first where it is one, and is passed over where it is none
-pub first-breach-first : (b b′ : Found) → isSound b ≡ false → orElse b b′ ≡ b
+first-breach-first : (b b′ : Found) → isSound b ≡ false → orElse b b′ ≡ b
 first-breach-first Sound b′ e = absurd (false≢true (sym e))
 first-breach-first (Broken b) b′ e = refl
 

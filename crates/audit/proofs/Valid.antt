@@ -139,12 +139,12 @@ passes-cell t c s =
     (λ j h. scan-none (lawBreach t c j) j (λ l k. picks-sound (lawSound t c j l) (Broken (Law c j l)) (s .law-holds j l h k)))))
 
 -- The search finds nothing exactly where every cell passes.
-pub sound-cells : (t : List ℕ) → sound t ≡ true → (c : ℕ) → c < cellsOf t → SoundCell t c
+sound-cells : (t : List ℕ) → sound t ≡ true → (c : ℕ) → c < cellsOf t → SoundCell t c
 unfolding sound firstBreach
 sound-cells t e c h =
     passed-cell t c (scan-each (cellBreach t) (cellsOf t) (sound-true (firstBreach t) e) c h)
 
-pub cells-sound : (t : List ℕ) → ((c : ℕ) → c < cellsOf t → SoundCell t c) → sound t ≡ true
+cells-sound : (t : List ℕ) → ((c : ℕ) → c < cellsOf t → SoundCell t c) → sound t ≡ true
 unfolding sound firstBreach
 cells-sound t each =
     ap isSound (scan-none (cellBreach t) (cellsOf t) (λ c h. passes-cell t c (each c h)))

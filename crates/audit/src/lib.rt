@@ -70,8 +70,8 @@ fn law_places(p: u16) -> usize
 // not clear a cell, the labelled loops below, which are the form that the rules name, begin there and name the breach.
 
 // Whether cell c breaks nothing, for its dimension p with this many used places and places of the law: the differences are gathered
-// in one word. A face outside the table is left at once, since it cannot be read. A no says nothing of what is wrong, or where. Each
-// call has numbers for the last three, so the lengths of the loops are known.
+// in one word. The unused places come first: they ask for no other record. A face outside the table is left at once, since it cannot
+// be read. A no says nothing of what is wrong, or where. Each call has numbers for the last three, so the lengths of the loops are known.
 fn clears_as(t: &[u16], n: usize, c: usize, p: u16, used: usize, places: usize) -> bool
     requires { ⌜ (n ≡ cellsOf (now t)) × (c < n) ⌝ }
     requires { ⌜ (p ≡ dimOf (now t) c) × ((p ≤ top) ⊎ (p ≡ freeMark)) ⌝ }
@@ -80,6 +80,9 @@ fn clears_as(t: &[u16], n: usize, c: usize, p: u16, used: usize, places: usize) 
 {
     let faces = Table::faces(t, c);
     let mut bad = 0;
+    for j in used..Table::FACES {
+        bad |= faces[j] ^ Table::FREE;
+    }
     for j in 0..used {
         if faces[j] as usize >= n {
             return false;
@@ -95,9 +98,6 @@ fn clears_as(t: &[u16], n: usize, c: usize, p: u16, used: usize, places: usize) 
             let e = faces[l] as usize;
             bad |= Table::face(t, f, l) ^ Table::face(t, e, j - 1);
         }
-    }
-    for j in used..Table::FACES {
-        bad |= faces[j] ^ Table::FREE;
     }
     bad == 0
 }

@@ -64,7 +64,7 @@ digit-of-power-other (suc b) (suc k) h =
 pub half-lt : (w n : ℕ) → n < 2 ^ suc w → n / 2 < 2 ^ w
 half-lt w n h = shr-lt w 1 (rw add-one h)
 
-pub digits-decide-below : (w a b : ℕ) → a < 2 ^ w → b < 2 ^ w → ((k : ℕ) → k < w → digit a k ≡ digit b k) → a ≡ b
+digits-decide-below : (w a b : ℕ) → a < 2 ^ w → b < 2 ^ w → ((k : ℕ) → k < w → digit a k ≡ digit b k) → a ≡ b
 digits-decide-below zero a b ha hb same = lt-one ha ∙ sym (lt-one hb)
 digits-decide-below (suc w) a b ha hb same =
     halves

@@ -13,7 +13,7 @@ use Rattle.bitset.specs.Bits.{bits, digit, mark, IsWithin}
 use Rattle.bitset.proofs.Digits.{digit-lt-two, digits-decide}
 use Rattle.bitset.proofs.Marks.{mark-at, member-inside}
 
-pub digit-or : (a b k : ℕ) → (digit b k ≤ digit (bitOr a b) k) × (digit a k ≤ digit (bitOr a b) k) × (digit (bitOr a b) k ≤ digit a k + digit b k)
+digit-or : (a b k : ℕ) → (digit b k ≤ digit (bitOr a b) k) × (digit a k ≤ digit (bitOr a b) k) × (digit (bitOr a b) k ≤ digit a k + digit b k)
 unfolding digit
 digit-or a b k =
     let e : bitOr a b / 2 ^ k ≡ bitOr (a / 2 ^ k) (b / 2 ^ k) = or-shr a b k in
@@ -21,10 +21,10 @@ digit-or a b k =
     (omega (arith, e, s), omega (arith, e, s), omega (arith, e, s))
 
 -- x | y ≡ y: what is in x is in y
-pub word-inside : (x y k : ℕ) → bitOr x y ≡ y → digit x k ≡ 1 → digit y k ≡ 1
+word-inside : (x y k : ℕ) → bitOr x y ≡ y → digit x k ≡ 1 → digit y k ≡ 1
 word-inside x y k e one = omega (arith, digit-or x y k .1, ap (λ (v : ℕ). digit v k) e, digit-lt-two y k)
 
-pub inside-word : (x y : ℕ) → x < 2 ^ 64 → y < 2 ^ 64 → ((k : ℕ) → k < bits → digit x k ≡ 1 → digit y k ≡ 1) → bitOr x y ≡ y
+inside-word : (x y : ℕ) → x < 2 ^ 64 → y < 2 ^ 64 → ((k : ℕ) → k < bits → digit x k ≡ 1 → digit y k ≡ 1) → bitOr x y ≡ y
 inside-word x y hx hy in-y = digits-decide (bitOr x y) y (or-lt 64 x y hx hy) hy (λ k h. at k h)
   where
     at : (k : ℕ) → k < bits → digit (bitOr x y) k ≡ digit y k

@@ -1,7 +1,7 @@
 pub mod Digits
 pub mod Marks
 pub mod LowBit
-pub mod Greatest
+pub mod LargestMember
 pub mod Words
 pub mod Runs
 pub mod Adding

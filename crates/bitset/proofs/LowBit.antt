@@ -47,7 +47,7 @@ trailing-is-lowest v p h =
 -- ---- a word with one bit taken away
 
 -- how `1 << k` reads
-pub one-shifted : (k : ℕ) → k < bits → (1 * 2 ^ k) % 2 ^ 64 ≡ 2 ^ k
+one-shifted : (k : ℕ) → k < bits → (1 * 2 ^ k) % 2 ^ 64 ≡ 2 ^ k
 one-shifted k h = shl-exact {a = 1} 1 k 64 (lit< tt) (omega arith) ∙ one-mul (2 ^ k)
 
 -- how `ws[c / 64] ^ (1 << (c % 64))` reads once it is stored
@@ -63,7 +63,7 @@ and-power v k =
     ap (bitAnd v) (sym one) ∙ and-high v 1 k
 
 -- the bit and the rest make the word
-pub bit-and-rest : (v k : ℕ) → digit v k ≡ 1 → bitXor v (2 ^ k) + 2 ^ k ≡ v
+bit-and-rest : (v k : ℕ) → digit v k ≡ 1 → bitXor v (2 ^ k) + 2 ^ k ≡ v
 bit-and-rest v k e =
     let shared : bitAnd v (2 ^ k) ≡ 2 ^ k = and-power v k ∙ ap (λ (x : ℕ). x * 2 ^ k) e ∙ one-mul (2 ^ k) in
     omega (arith, xor-add-and v (2 ^ k))
@@ -73,7 +73,7 @@ module _ (v k : ℕ) (h : k < bits) where
   gone : bitXor v ((1 * 2 ^ k) % 2 ^ 64) ≡ bitXor v (2 ^ k)
   gone = ap (bitXor v) (one-shifted k h)
 
-  pub bit-gone-turned : digit (bitXor v ((1 * 2 ^ k) % 2 ^ 64)) k ≡ (digit v k + 1) % 2
+  bit-gone-turned : digit (bitXor v ((1 * 2 ^ k) % 2 ^ 64)) k ≡ (digit v k + 1) % 2
   bit-gone-turned =
       ap (λ (x : ℕ). digit x k) gone ∙ digit-xor v (2 ^ k) k ∙ ap (λ (x : ℕ). (digit v k + x) % 2) (digit-of-power-same k)
 

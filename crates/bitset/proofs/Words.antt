@@ -28,13 +28,13 @@ and-right true b h = h
 and-right false true h = refl
 and-right false false h = h
 
-pub nothing-in-words : (ws : List ℕ) → nothingIn ws ≡ true → (k : ℕ) → getD ws k 0 ≡ 0
+nothing-in-words : (ws : List ℕ) → nothingIn ws ≡ true → (k : ℕ) → getD ws k 0 ≡ 0
 unfolding nothingIn
 nothing-in-words [] h k = refl
 nothing-in-words (x ∷ ws) h zero = eqb-true x 0 (and-left (eqb x 0) (nothingIn ws) h)
 nothing-in-words (x ∷ ws) h (suc k) = nothing-in-words ws (and-right (eqb x 0) (nothingIn ws) h) k
 
-pub words-nothing-in : (ws : List ℕ) → ((k : ℕ) → getD ws k 0 ≡ 0) → nothingIn ws ≡ true
+words-nothing-in : (ws : List ℕ) → ((k : ℕ) → getD ws k 0 ≡ 0) → nothingIn ws ≡ true
 unfolding nothingIn
 words-nothing-in [] none = refl
 words-nothing-in (x ∷ ws) none = ap (λ (b : Bool). b && nothingIn ws) (eq-eqb x 0 (none 0)) ∙ words-nothing-in ws (λ k. none (suc k))

@@ -7,8 +7,8 @@ use Prim.Native.Nat.{ℕ, _+_, _*_, _/_, _%_, _^_, _<_}
 use lib.ListN.{length, getD, set}
 use lib.Bits.{bitXor}
 use lib.Dec.{eqb}
-use Rattle.bitset.specs.declared.Top.{Top}
-use Rattle.bitset.specs.declared.Top.the-variants.{Nothing, Cell}
+use Rattle.bitset.specs.declared.LargestCell.{LargestCell}
+use Rattle.bitset.specs.declared.LargestCell.the-variants.{Nothing, Cell}
 
 -- bits in a word
 abbrev pub bits : ℕ
@@ -50,14 +50,14 @@ pub record IsLowest (v b : ℕ) : Type 0 where
   pub below : (k : ℕ) → k < b → digit v k ≡ 0
 
 -- m is the largest member
-pub record IsGreatest (ws : List ℕ) (m : ℕ) : Type 0 where
+pub record IsLargestIn (ws : List ℕ) (m : ℕ) : Type 0 where
   pub inside : m < bits * length ws
   pub in-set : mark ws m ≡ 1
   pub above : (s : ℕ) → m < s → mark ws s ≡ 0
 
-abbrev pub TopIs : List ℕ → Top → Type 0
-TopIs ws Nothing = (s : ℕ) → mark ws s ≡ 0
-TopIs ws (Cell m) = IsGreatest ws m
+abbrev pub LargestIs : List ℕ → LargestCell → Type 0
+LargestIs ws Nothing = (s : ℕ) → mark ws s ≡ 0
+LargestIs ws (Cell m) = IsLargestIn ws m
 
 -- every word is 0
 unfoldable pub nothingIn : List ℕ → Bool

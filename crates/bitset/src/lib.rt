@@ -3,13 +3,14 @@
 ghost use mathlib.Core.Path.{_≡_};
 ghost use Prim.Native.Nat.{_*_, _/_, _^_, _≤_, _<_};
 ghost use lib.ListN.{length};
-ghost use Rattle.bitset.specs.Bits.{wordsFor, fullWidth, member, toggled, sumOf, IsLowest, TopIs, nothingIn, IsWithin};
+ghost use Rattle.bitset.specs.Bits.{wordsFor, fullWidth, member, toggled, sumOf, IsLowest, LargestIs, nothingIn, IsWithin};
 
 mod matrix;
 
 pub use matrix::add_kept;
 pub use matrix::add_row;
 pub use matrix::keep_row;
+pub use matrix::row;
 pub use matrix::start_row;
 
 // Words in a largest set. A loop that is told this number is unrolled and keeps its words in registers, which a width that is known
@@ -17,7 +18,7 @@ pub use matrix::start_row;
 pub const FULL: usize = 8;
 
 // The largest member of a set, where it has one.
-pub enum Top {
+pub enum LargestCell {
     Nothing,
     Cell(usize),
 }
@@ -76,19 +77,19 @@ fn add_first(into: &mut [u64], from: &[u64], n: usize)
 
 // The largest member, from the top bit of the last word that is not 0. It asks that every number that
 // the words can stand for fits a usize.
-pub fn largest(ws: &[u64]) -> Top
+pub fn largest(ws: &[u64]) -> LargestCell
     requires { ⌜ 64 * length (now ws) ≤ 2 ^ 64 ⌝ }
-    ensures { λ r. ⌜ TopIs (now (ws .entry)) r ⌝ }
+    ensures { λ r. ⌜ LargestIs (now (ws .entry)) r ⌝ }
 {
     let mut w = ws.len();
     while w > 0 {
         w -= 1;
         let v = ws[w];
         if v != 0 {
-            return Top::Cell(64 * w + (63 - u64::leading_zeros(v) as usize));
+            return LargestCell::Cell(64 * w + (63 - u64::leading_zeros(v) as usize));
         }
     }
-    Top::Nothing
+    LargestCell::Nothing
 }
 
 // Whether the set has no member.

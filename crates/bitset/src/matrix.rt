@@ -69,13 +69,21 @@ fn keep_words(ws: &mut [u64], at: usize, words: &[u64], w: usize)
     }
 }
 
+// Row c, where it lies.
+pub fn row(ws: &[u64], c: usize, w: usize) -> &[u64]
+    requires { ⌜ c * w + w ≤ length (now ws) ⌝ }
+    ensures { λ r. ⌜ now r ≡ rowAt w (now (ws .entry)) c ⌝ }
+{
+    let from = c * w;
+    let end = from + w;
+    &ws[from..end]
+}
+
 // Adds row m to a set of w words.
 pub fn add_kept(into: &mut [u64], ws: &[u64], m: usize, w: usize)
     requires { ⌜ m * w + w ≤ length (now ws) ⌝ }
     requires { ⌜ length (now into) ≡ w ⌝ }
     ensures { λ _. ⌜ now (into .exit) ≡ sumOf (now (into .entry)) (rowAt w (now (ws .entry)) m) ⌝ }
 {
-    let from = m * w;
-    let end = from + w;
-    add(into, &ws[from..end])
+    add(into, row(ws, m, w))
 }

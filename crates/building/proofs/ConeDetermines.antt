@@ -44,7 +44,7 @@ module _ (t marks : List ℕ) where
       (lower-cone x y s m (λ b l k. agree-below x y n b (omega arith) k))
       (lower-cone y x s m (λ b l k. sym (agree-below x y n b (omega arith) k)))
 
-  pub same-cones : {a a′ : ℕ} {κ κ′ : ℕ → ℕ} {u u′ : List ℕ} → IsCone t marks a κ u → IsCone t marks a′ κ′ u′ → (s : ℕ) → member marks s ≡ true → κ s ≡ κ′ s
+  same-cones : {a a′ : ℕ} {κ κ′ : ℕ → ℕ} {u u′ : List ℕ} → IsCone t marks a κ u → IsCone t marks a′ κ′ u′ → (s : ℕ) → member marks s ≡ true → κ s ≡ κ′ s
   same-cones x y s m = agree-below x y (suc s) s (omega arith) m
 
 module _ (t marks : List ℕ) (acc : Accepts t marks) (a a′ : ℕ) (κ κ′ : ℕ → ℕ) (u u′ : List ℕ) (x : IsCone t marks a κ u) (y : IsCone t marks a′ κ′ u′) where

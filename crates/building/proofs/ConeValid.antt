@@ -32,7 +32,7 @@ free-dim t v c f =
     (v .records c (free-inside t c f))
 
 -- a live cell c of dimension p
-pub record Facet (u : List ℕ) (p c : ℕ) : Type 0 where
+record Facet (u : List ℕ) (p c : ℕ) : Type 0 where
   pub lives : Live u c
   pub has-dim : dim u c ≡ p
 
@@ -222,7 +222,7 @@ module _ (t marks : List ℕ) (acc : Accepts t marks) (a : ℕ) (κ : ℕ → �
   law-by c j l h w k b (rest f other none) = absurd (omega (arith, rest-mark c f other none))
 
   -- the published rule keeps a table valid
-  pub cone-is-valid : Valid u
+  cone-is-valid : Valid u
   cone-is-valid =
       let z = acc .valid .sized in
       record {
@@ -240,7 +240,7 @@ module _ (t marks : List ℕ) (acc : Accepts t marks) (a : ℕ) (κ : ℕ → �
         law = λ c j l v h k b. law-by c j l h (v .low) k b (sorted c (v .inside));
       }
 
-pub cone-keeps-valid : (t marks : List ℕ) → coneVerdict t marks ≡ Accepted → Valid (coned t marks)
+cone-keeps-valid : (t marks : List ℕ) → coneVerdict t marks ≡ Accepted → Valid (coned t marks)
 cone-keeps-valid t marks e =
     let acc = cone-accepted t marks e in
     cone-is-valid t marks acc (apexOf t) (coneOf t marks) (coned t marks) (coned-is-cone t marks acc)

@@ -98,7 +98,7 @@ step-is-call v (made e x) = rule-is-made v e x
 -- ---- any run
 
 -- what the calls leave is what the published rules give,
-pub calls-follow-rules : (t : List ℕ) (rs : List Request) → Run t rs (calls t rs)
+calls-follow-rules : (t : List ℕ) (rs : List Request) → Run t rs (calls t rs)
 unfolding calls
 calls-follow-rules t [] = done
 calls-follow-rules t (r ∷ rs) = more (call-is-step t r) (calls-follow-rules (leftBy t r) rs)

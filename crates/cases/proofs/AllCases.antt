@@ -49,7 +49,7 @@ each-case-passes =
     then refl  -- 12
     then end
 
-pub each-case-holds : Each Holds cases
+each-case-holds : Each Holds cases
 each-case-holds = each-passing-holds each-case-passes
 
 -- what each entry of a list has, the one at place k has

@@ -163,7 +163,7 @@ module _ (e : Case) where
       (and-right passesIncidences passesAdditions rest)
 
   -- an entry that passes the test holds
-  pub passing-case-holds : test e ≡ true → Holds e
+  passing-case-holds : test e ≡ true → Holds e
   unfolding test
   passing-case-holds h =
       let went : Bool = goes (e .before) (e .asked) (e .after) in

@@ -28,36 +28,21 @@ use Rattle.audit.proofs.Valid.{sound-is-valid, valid-is-sound, valid-is-sized, 
 use Rattle.complex.specs.Cells.{cells}
 use Rattle.complex.proofs.Boundary.{valid-is-lawful}
 use Rattle.rows.specs.Rows.{evidenceWords, rows}
+use Rattle.rows.specs.Lengths.{evidenceFits, lengthsFit}
+use Rattle.rows.proofs.Lengths.{fitting-length}
 use Rattle.checker.specs.declared.Checked.{Checked}
-use Rattle.checker.specs.Check.{allRows, evidenceFits, checkVerdict, Answered, Checks}
-use Rattle.checker.specs.Row.{lengthsFit}
+use Rattle.checker.specs.Check.{allRows, checkVerdict, Answered, Checks}
 use Rattle.checker.specs.Fault.{FirstBreaksA, FirstBreaksB}
 use Rattle.checker.proofs.Meeting.{rows-accepted-iff-rules, named-breaks-a, named-breaks-b, breaks-a-named, breaks-b-named}
 
 pub lengths-fit : (t ev : List ℕ) → Valid t → length ev ≡ evidenceWords (cells t) → lengthsFit t ev ≡ true
 lengths-fit t ev v long = and-both _ _ (valid-is-sized t v) (eq-eqb (length ev) (evidenceWords (cells t)) long)
 
--- the two ways out of the test of the lengths
-pub no-table-fits : (t ev : List ℕ) → sized t ≡ false → false ≡ lengthsFit t ev
-no-table-fits t ev e = sym (ap (λ (b : Bool). b && evidenceFits t ev) e)
-
-pub table-fits : (t ev : List ℕ) (n w : ℕ) → sized t ≡ true → n ≡ cellsOf t → w ≡ wordsFor n → eqb (length ev) (n * w) ≡ lengthsFit t ev
-table-fits t ev n w on same g =
-    ap (λ (k : ℕ). eqb (length ev) (n * k)) g
-    ∙ ap (λ (k : ℕ). eqb (length ev) (k * wordsFor k)) same
-    ∙ sym (ap (λ (b : Bool). b && evidenceFits t ev) on)
-
--- and the product is small
-pub product-small : (t : List ℕ) (n w : ℕ) → sized t ≡ true → n ≡ cellsOf t → w ≡ wordsFor n → n * w ≤ capacity * fullWidth
-product-small t n w on same g =
-    let low : n ≤ capacity = omega (arith, sized-is-sized t on .room) in
-    omega (arith, mul-le-mul-right w low)
-
 pub refused-length : (t ev : List ℕ) → lengthsFit t ev ≡ false → checkVerdict t ev ≡ Refused refusals.Length
 unfolding checkVerdict
 refused-length t ev e = rw e
 
-pub refused-invalid : (t ev : List ℕ) → lengthsFit t ev ≡ true → sound t ≡ false → checkVerdict t ev ≡ Refused (invalid t)
+refused-invalid : (t ev : List ℕ) → lengthsFit t ev ≡ true → sound t ≡ false → checkVerdict t ev ≡ Refused (invalid t)
 unfolding checkVerdict
 refused-invalid t ev e f = rw (e, f)
 
@@ -70,11 +55,8 @@ audit-refuses t ev r f e =
     let z : _≡_ {A = ℕ} 0 1 = cc in absurd (omega arith))
     (λ s. e ∙ rw (on, s) (sym (refused-invalid t ev f s)))
 
-pub fitting-length : (t ev : List ℕ) → lengthsFit t ev ≡ true → length ev ≡ evidenceWords (cells t)
-fitting-length t ev f = eqb-true (length ev) (evidenceWords (cells t)) (and-right (sized t) (eqb (length ev) (evidenceWords (cells t))) f)
-
 -- past these two grounds the rows decide
-pub rows-decide : (t ev : List ℕ) → Valid t → length ev ≡ evidenceWords (cells t) → checkVerdict t ev ≡ verdict (allRows (cells t) ev)
+rows-decide : (t ev : List ℕ) → Valid t → length ev ≡ evidenceWords (cells t) → checkVerdict t ev ≡ verdict (allRows (cells t) ev)
 unfolding checkVerdict
 rows-decide t ev v long = rw (lengths-fit t ev v long, valid-is-sound t v)
 

@@ -37,7 +37,7 @@ module _ (K : Cells) (ev : List ℕ) where
   pub passed-none : Passed K ev 0
   passed-none = record { keeps-a = λ b l. absurd (omega arith); keeps-b = λ b l. absurd (omega arith) }
 
-  pub passed-suc : (c : ℕ) → Passed K ev c → keepsA K ev c ≡ true → keepsB K ev c ≡ true → Passed K ev (suc c)
+  passed-suc : (c : ℕ) → Passed K ev c → keepsA K ev c ≡ true → keepsB K ev c ≡ true → Passed K ev (suc c)
   passed-suc c p a b = record {
     keeps-a = λ s l. by-order s c (p .keeps-a s) (λ e. subst (λ (k : ℕ). keepsA K ev k ≡ true) (sym e) a) (λ g. absurd (omega arith));
     keeps-b = λ s l. by-order s c (p .keeps-b s) (λ e. subst (λ (k : ℕ). keepsB K ev k ≡ true) (sym e) b) (λ g. absurd (omega arith));

@@ -1,4 +1,4 @@
-pub mod Tops
+pub mod LargestBelow
 pub mod Dimensions
 pub mod RowTests
 pub mod LiveSets

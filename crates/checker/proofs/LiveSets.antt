@@ -9,7 +9,7 @@ use native.Mathlib.Decide.{ℕ-discrete}
 use native.Mathlib.Omega.{arith}
 use borrow.Author.Tests.{eq-eqb, ne-eqb, lt-ltb, le-ltb, ltb-true}
 use lib.Dec.{eqb, ltb}
-use lib.ListN.{length, getD, replicate, take, drop}
+use lib.ListN.{length, getD, replicate}
 use Rattle.counting.proofs.Cases.{and-both, and-left, and-right}
 use Rattle.homology.specs.Cells.{Cells, _⊻_}
 use Rattle.homology.proofs.Marks.{⊻-off, &&-off}
@@ -19,7 +19,7 @@ use Rattle.bitset.proofs.Marks.{length-toggled, member-true, true-member}
 use Rattle.table.specs.Kind.{capacity, top}
 use Rattle.rows.proofs.Members.{member-toggled, member-zeros, member-inside}
 use Rattle.bitset.specs.Rows.{rowAt}
-use Rattle.bitset.proofs.RowLaws.{getD-row, lent-is-row}
+use Rattle.bitset.proofs.RowLaws.{getD-row}
 use Rattle.checker.specs.Row.{rowKeeps, liveWords, Lives}
 use Rattle.checker.proofs.Dimensions.{cell-says, other-dimension}
 use Rattle.checker.proofs.RowTests.{same-test, Fitting, kept-members, members-kept}
@@ -100,9 +100,8 @@ module _ (K : Cells) (c : ℕ) (row ws : List ℕ) (alive : K .live c ≡ true) 
       ∙ member-true ws (capacity * p + s)
       (so .each p s level fits ∙ and-both _ _ (lt-ltb s (c + 1) (omega (arith, f .low))) (cell-says K p s (f .member-live) (f .level ∙ sym e)))
 
-  pub row-within : (r : Bool) → IsWithin row (take (p * fullWidth + fullWidth - p * fullWidth) (drop (p * fullWidth) ws)) r → r ≡ rowKeeps K c row
-  row-within r given =
-      let h : IsWithin row (rowAt fullWidth ws p) r = subst (λ (x : List ℕ). IsWithin row x r) (lent-is-row fullWidth p ws) given in
+  pub row-within : (r : Bool) → IsWithin row (rowAt fullWidth ws p) r → r ≡ rowKeeps K c row
+  row-within r h =
       same-test r (rowKeeps K c row)
       (λ q. members-kept K c row (λ s m. in-set s (inside s m) (h .says q s (member-true row s m))) (λ on. own))
       (λ q. h .said (λ s m. set-has s (inside s (true-member row s m)) (kept-members K c row q s (true-member row s m))))

@@ -24,11 +24,11 @@ use Rattle.checker.specs.Row.{rowKeeps}
 -- ---- tests
 
 -- a test that is asked only where another holds
-pub or-off : (a b : Bool) → (not a || b) ≡ true → a ≡ true → b ≡ true
+or-off : (a b : Bool) → (not a || b) ≡ true → a ≡ true → b ≡ true
 or-off true b e h = e
 or-off false b e h = clash h refl
 
-pub or-on : (a b : Bool) → (a ≡ true → b ≡ true) → (not a || b) ≡ true
+or-on : (a b : Bool) → (a ≡ true → b ≡ true) → (not a || b) ≡ true
 or-on true b h = h refl
 or-on false b h = refl
 

@@ -21,11 +21,11 @@ use Rattle.homology.proofs.HoleCells.{isBounding}
 use Rattle.table.specs.Kind.{top}
 use Rattle.counting.proofs.Listed.{length-listed, getD-listed}
 use Rattle.rows.specs.Rows.{evidenceWords, rows}
-use Rattle.checker.specs.Check.{keepsA, rowBoundary, rowTop}
+use Rattle.checker.specs.Check.{keepsA, rowBoundary, rowLargest}
 use Rattle.checker.specs.Row.{differences}
-use Rattle.checker.proofs.Tops.{any-on-top, any-off-top}
+use Rattle.checker.proofs.LargestBelow.{any-on-largest, any-off-largest}
 use Rattle.checker.proofs.Dimensions.{cell-says, other-dimension}
-use Rattle.checker.proofs.Rules.{kept-fits, row-top-largest}
+use Rattle.checker.proofs.Rules.{kept-fits, row-largest-says}
 
 -- ---- the rows with a boundary
 
@@ -34,20 +34,20 @@ isBoundingAt K ev p c = isCell K p c && isBounding K (rows K ev) c
 
 module _ (K : Cells) (ev : List ℕ) (law : Lawful K) (long : length ev ≡ evidenceWords K) (c : ℕ) (inside : c < K .size) where
   -- a row with a boundary belongs to a live cell
-  pub bounding-live : (m : ℕ) → keepsA K ev c ≡ true → rowTop K ev c ≡ suc m → K .live c ≡ true
+  pub bounding-live : (m : ℕ) → keepsA K ev c ≡ true → rowLargest K ev c ≡ suc m → K .live c ≡ true
   bounding-live m a e =
-      let r = boundary-member K law (rows K ev c) m (row-top-largest K ev law c m e .member) in
+      let r = boundary-member K law (rows K ev c) m (row-largest-says K ev law c m e .member) in
       kept-fits K ev long c inside a (r .0) (r .1) .cell-live
 
-  pub row-counted : (n m p : ℕ) (xs : List ℕ) → keepsA K ev c ≡ true → rowTop K ev c ≡ suc m → p ≡ K .dim c → p < n → Tally n (isBoundingAt K ev) c xs → Tally n (isBoundingAt K ev) (c + 1) (set xs p (getD xs p 0 + 1))
+  pub row-counted : (n m p : ℕ) (xs : List ℕ) → keepsA K ev c ≡ true → rowLargest K ev c ≡ suc m → p ≡ K .dim c → p < n → Tally n (isBoundingAt K ev) c xs → Tally n (isBoundingAt K ev) (c + 1) (set xs p (getD xs p 0 + 1))
   row-counted n m p xs a e g l k =
       tally-counted k p l
-      (and-both _ _ (cell-says K p c (bounding-live m a e) (sym g)) (any-on-top (rowBoundary K ev c) (K .size) m e))
+      (and-both _ _ (cell-says K p c (bounding-live m a e) (sym g)) (any-on-largest (rowBoundary K ev c) (K .size) m e))
       (λ q ne. ap (λ (b : Bool). b && isBounding K (rows K ev) c) (other-dimension K q c (λ z. ne (sym (g ∙ z)))))
 
-pub row-skipped : (K : Cells) (ev : List ℕ) (c n : ℕ) (xs : List ℕ) → rowTop K ev c ≡ 0 → Tally n (isBoundingAt K ev) c xs → Tally n (isBoundingAt K ev) (c + 1) xs
+pub row-skipped : (K : Cells) (ev : List ℕ) (c n : ℕ) (xs : List ℕ) → rowLargest K ev c ≡ 0 → Tally n (isBoundingAt K ev) c xs → Tally n (isBoundingAt K ev) (c + 1) xs
 row-skipped K ev c n xs e k = tally-skipped k
-    (λ p h. ap (λ (b : Bool). isCell K p c && b) (any-off-top (rowBoundary K ev c) (K .size) e) ∙ &&-off (isCell K p c))
+    (λ p h. ap (λ (b : Bool). isCell K p c && b) (any-off-largest (rowBoundary K ev c) (K .size) e) ∙ &&-off (isCell K p c))
 
 -- the counters after the last row
 pub rows-counted : (K : Cells) (ev : List ℕ) (m n : ℕ) (xs : List ℕ) → n ≡ K .size → Tally m (isBoundingAt K ev) n xs → (p : ℕ) → p < m → getD xs p 0 ≡ boundingIn K (rows K ev) p

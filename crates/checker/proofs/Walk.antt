@@ -21,7 +21,7 @@ use Rattle.checker.specs.declared.Finding.{Finding}
 use Rattle.checker.specs.declared.Finding.the-variants.{BreaksA, BreaksB, Closed, Bounds}
 use Rattle.checker.proofs.Faults.{Passed, passed-none, passed-more, all-pass, first-breaks-a, first-breaks-b}
 use Rattle.checker.proofs.Meeting.{passed-meets}
-use Rattle.checker.proofs.LargestMet.{Met, met-none, met-closed, met-bounds, closed-keeps-b, unmet-keeps-b, met-breaks-b, top-fits}
+use Rattle.checker.proofs.LargestMet.{Met, met-none, met-closed, met-bounds, closed-keeps-b, unmet-keeps-b, met-breaks-b, largest-fits}
 use Rattle.counting.proofs.Tallies.{Tally, tally-none, tally-most}
 use Rattle.checker.proofs.Tallies.{isBoundingAt, row-counted, row-skipped, rows-counted, bounding-live}
 
@@ -29,7 +29,7 @@ use Rattle.checker.proofs.Tallies.{isBoundingAt, row-counted, row-skipp
 pub record Walked (K : Cells) (ev : List ℕ) (c : ℕ) (xs rs : List ℕ) : Type 0 where
   pub long : length xs ≡ fullWidth
   pub passed : Passed K ev c
-  pub tops : Met K ev c xs
+  pub largest-met : Met K ev c xs
   pub tally : Tally (top + 2) (isBoundingAt K ev) c rs
 
 pub walked-same : {K : Cells} {ev xs rs rs′ : List ℕ} {c : ℕ} → rs′ ≡ rs → Walked K ev c xs rs → Walked K ev c xs rs′
@@ -39,7 +39,7 @@ pub walk-none : (K : Cells) (ev : List ℕ) → Walked K ev 0 (replicate fullWid
 walk-none K ev = record {
   long = refl;
   passed = passed-none K ev;
-  tops = met-none K ev fullWidth;
+  largest-met = met-none K ev fullWidth;
   tally = tally-none (top + 2) (isBoundingAt K ev);
 }
 
@@ -53,7 +53,7 @@ module _ (K : Cells) (ev : List ℕ) (law : Lawful K) (long : length ev ≡ evid
   walk-breaks-b found e g =
       let f : Found K ev c xs ys BreaksB = subst (Found K ev c xs ys) e g in
       let m = f .1 in
-      first-breaks-b K ev c (K .size) inside (w .passed) (f .0) (met-breaks-b K ev c (m .0) xs (m .1) (w .tops) (m .2))
+      first-breaks-b K ev c (K .size) inside (w .passed) (f .0) (met-breaks-b K ev c (m .0) xs (m .1) (w .largest-met) (m .2))
 
   pub walk-closed : (found : Finding) → found ≡ Closed → Found K ev c xs ys found → Walked K ev (c + 1) ys rs
   walk-closed found e g =
@@ -61,7 +61,7 @@ module _ (K : Cells) (ev : List ℕ) (law : Lawful K) (long : length ev ≡ evid
       subst (λ (zs : List ℕ). Walked K ev (c + 1) zs rs) (sym (f .2)) record {
         long = w .long;
         passed = passed-more K ev c (w .passed) (f .0) (closed-keeps-b K ev c (f .1));
-        tops = met-closed K ev c xs (f .1) (w .tops);
+        largest-met = met-closed K ev c xs (f .1) (w .largest-met);
         tally = row-skipped K ev c (top + 2) rs (f .1) (w .tally);
       }
 
@@ -79,11 +79,11 @@ module _ (K : Cells) (ev : List ℕ) (law : Lawful K) (long : length ev ≡ evid
       let f : Found K ev c xs ys Bounds = subst (Found K ev c xs ys) e g in
       let m = f .1 in
       let level : p ≤ top = bounds-level low found e g p q in
-      let fits = top-fits K ev room c (m .0) (m .1) in
+      let fits = largest-fits K ev room c (m .0) (m .1) in
       subst (λ (zs : List ℕ). Walked K ev (c + 1) zs (set rs p (getD rs p 0 + 1))) (sym (m .3)) record {
         long = length-toggled xs (m .0) ∙ w .long;
-        passed = passed-more K ev c (w .passed) (f .0) (unmet-keeps-b K ev c (m .0) xs (m .1) (w .tops) (m .2));
-        tops = met-bounds K ev c (m .0) xs (m .1) (omega (arith, w .long)) (m .2) (w .tops);
+        passed = passed-more K ev c (w .passed) (f .0) (unmet-keeps-b K ev c (m .0) xs (m .1) (w .largest-met) (m .2));
+        largest-met = met-bounds K ev c (m .0) xs (m .1) (omega (arith, w .long)) (m .2) (w .largest-met);
         tally = row-counted K ev law long c inside (top + 2) (m .0) p rs (f .0) (m .1) q (omega arith) (w .tally);
       }
 

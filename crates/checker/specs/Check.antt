@@ -5,7 +5,7 @@ use mathlib.Core.Path.{_≡_}
 use mathlib.Core.Bool.{Bool, _&&_, _||_, not}
 use mathlib.Core.List.{List, [], _∷_}
 use Prim.Native.Nat.{ℕ, zero, suc, _+_, _*_}
-use lib.ListN.{length, replicate}
+use lib.ListN.{replicate}
 use lib.Dec.{eqb, leb}
 use Rattle.homology.specs.Cells.{Cells}
 use Rattle.homology.specs.Holes.{Chain, boundary}
@@ -18,7 +18,8 @@ use Rattle.calls.specs.Calls.{Ground, verdict, onVerdict}
 use Rattle.calls.specs.declared.Refusal.the-variants.{RuleA, RuleB}
 use Rattle.calls.specs.declared.Verdict.{Verdict}
 use Rattle.complex.specs.Cells.{cells}
-use Rattle.rows.specs.Rows.{rowWidth, evidenceWords, rows}
+use Rattle.rows.specs.Rows.{rowWidth, rows}
+use Rattle.rows.specs.Lengths.{evidenceFits}
 use Rattle.checker.specs.declared.Checked.{Checked}
 
 -- rule A at number c: a member is at most c, live and of c's dimension, and c is live; a live cell is in its own row
@@ -33,16 +34,16 @@ abbrev pub rowBoundary : Cells → List ℕ → ℕ → Chain
 rowBoundary K ev c = boundary K (rows K ev c)
 
 -- one more than the largest number below n in x, and 0 where there is none
-unfoldable pub topBelow : Chain → ℕ → ℕ
-topBelow x zero = 0
-topBelow x (suc n) = pick (x n) (suc n) (topBelow x n)
+unfoldable pub largestBelow : Chain → ℕ → ℕ
+largestBelow x zero = 0
+largestBelow x (suc n) = pick (x n) (suc n) (largestBelow x n)
 
-abbrev pub rowTop : Cells → List ℕ → ℕ → ℕ
-rowTop K ev c = topBelow (rowBoundary K ev c) (K .size)
+abbrev pub rowLargest : Cells → List ℕ → ℕ → ℕ
+rowLargest K ev c = largestBelow (rowBoundary K ev c) (K .size)
 
 -- rule B at number c: its boundary is empty, or no lower row's boundary has the same largest cell
 unfoldable pub keepsB : Cells → List ℕ → ℕ → Bool
-keepsB K ev c = eqb (rowTop K ev c) 0 || not (someHas (λ b. eqb (rowTop K ev b) (rowTop K ev c)) c)
+keepsB K ev c = eqb (rowLargest K ev c) 0 || not (someHas (λ b. eqb (rowLargest K ev b) (rowLargest K ev c)) c)
 
 -- the two grounds of each row, for k rows from number c on
 unfoldable pub rowGrounds : Cells → List ℕ → ℕ → ℕ → List Ground
@@ -55,10 +56,6 @@ rowGrounds K ev c (suc k) =
 -- the grounds of all rows
 abbrev pub allRows : Cells → List ℕ → List Ground
 allRows K ev = rowGrounds K ev 0 (K .size)
-
--- evidence of the length for the table
-abbrev pub evidenceFits : List ℕ → List ℕ → Bool
-evidenceFits t ev = eqb (length ev) (evidenceWords (cells t))
 
 abbrev pub checkGrounds : List ℕ → List ℕ → List Ground
 checkGrounds t ev = groundsWith t (evidenceFits t ev) (allRows (cells t) ev)

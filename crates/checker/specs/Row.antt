@@ -8,18 +8,13 @@ use lib.Dec.{eqb, leb, ltb}
 use lib.ListN.{length, getD}
 use Rattle.homology.specs.Cells.{Cells}
 use Rattle.bitset.specs.Bits.{bits, member, toggled, fullWidth}
-use Rattle.bitset.specs.declared.Top.{Top}
-use Rattle.bitset.specs.declared.Top.the-variants.{Nothing, Cell}
+use Rattle.bitset.specs.declared.LargestCell.{LargestCell}
+use Rattle.bitset.specs.declared.LargestCell.the-variants.{Nothing, Cell}
 use Rattle.table.specs.Kind.{capacity, top, dimensions}
 use Rattle.counting.specs.Counting.{all, listed}
-use Rattle.table.specs.Table.{sized}
-use Rattle.checker.specs.Check.{evidenceFits, keepsA, rowTop}
+use Rattle.checker.specs.Check.{keepsA, rowLargest}
 use Rattle.checker.specs.declared.Finding.{Finding}
 use Rattle.checker.specs.declared.Finding.the-variants.{BreaksA, BreaksB, Closed, Bounds}
-
--- the lengths are a table's and that of evidence for it
-abbrev pub lengthsFit : List ℕ → List ℕ → Bool
-lengthsFit t ev = sized t && evidenceFits t ev
 
 -- rule A at number c, of the row's words
 unfoldable pub rowKeeps : Cells → ℕ → List ℕ → Bool
@@ -38,17 +33,17 @@ pub record Lives (K : Cells) (c : ℕ) (ws : List ℕ) : Type 0 where
   pub each : (p s : ℕ) → p ≤ top → s < capacity → member ws (capacity * p + s) ≡ (ltb s c && (K .live s && eqb (K .dim s) p))
 
 -- a largest member as one number: one more than it, and 0 where there is none
-abbrev pub topNumber : Top → ℕ
-topNumber Nothing = 0
-topNumber (Cell m) = suc m
+abbrev pub largestNumber : LargestCell → ℕ
+largestNumber Nothing = 0
+largestNumber (Cell m) = suc m
 
 -- What row c is found to be, where the set of the largest cells met so far goes from xs to ys.
 abbrev pub Found : Cells → List ℕ → ℕ → List ℕ → List ℕ → Finding → Type 0
 Found K ev c xs ys BreaksA = keepsA K ev c ≡ false
-Found K ev c xs ys BreaksB = (keepsA K ev c ≡ true) × ((m : ℕ) × (rowTop K ev c ≡ suc m) × (member xs m ≡ true))
-Found K ev c xs ys Closed = (keepsA K ev c ≡ true) × (rowTop K ev c ≡ 0) × (ys ≡ xs)
+Found K ev c xs ys BreaksB = (keepsA K ev c ≡ true) × ((m : ℕ) × (rowLargest K ev c ≡ suc m) × (member xs m ≡ true))
+Found K ev c xs ys Closed = (keepsA K ev c ≡ true) × (rowLargest K ev c ≡ 0) × (ys ≡ xs)
 Found K ev c xs ys Bounds =
-    (keepsA K ev c ≡ true) × ((m : ℕ) × (rowTop K ev c ≡ suc m) × (member xs m ≡ false) × (ys ≡ toggled xs m))
+    (keepsA K ev c ≡ true) × ((m : ℕ) × (rowLargest K ev c ≡ suc m) × (member xs m ≡ false) × (ys ≡ toggled xs m))
 
 -- counts for each dimension of which nothing is lost in the differences
 pub record CountsFit (ns rs : List ℕ) : Type 0 where

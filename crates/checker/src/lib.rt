@@ -8,9 +8,9 @@ ghost use Rattle.complex.specs.View.{viewOf, Frame};
 ghost use Rattle.complex.specs.Cells.{cells};
 ghost use Rattle.bitset.specs.Bits.{fullWidth};
 ghost use Rattle.rows.specs.Rows.{evidenceWords, RowLive};
-ghost use Rattle.checker.specs.Check.{Answered, Checks, allRows, keepsA, rowTop};
-ghost use Rattle.checker.specs.Row.{lengthsFit, rowKeeps, Lives, topNumber, Found, CountsFit, differences};
-use bitset::Top;
+ghost use Rattle.checker.specs.Check.{Answered, Checks, allRows, keepsA, rowLargest};
+ghost use Rattle.checker.specs.Row.{rowKeeps, Lives, largestNumber, Found, CountsFit, differences};
+use bitset::LargestCell;
 use calls::Refusal;
 use calls::Verdict;
 use rows::view;
@@ -60,9 +60,7 @@ fn row_keeps(t: &[u16], c: usize, row: &[u64], lives: &[u64]) -> bool
     if !bitset::has(row, c) {
         return false;
     }
-    let at = p * bitset::FULL;
-    let end = at + bitset::FULL;
-    bitset::within(row, &lives[at..end])
+    bitset::within(row, bitset::row(lives, p, bitset::FULL))
 }
 
 // Rule A at number c.
@@ -73,19 +71,16 @@ fn keeps_a(t: &[u16], evidence: &[u64], c: usize, lives: &[u64]) -> bool
     requires { ⌜ Lives (cells (now t)) (c + 1) (now lives) ⌝ }
     ensures { λ r. ⌜ r ≡ keepsA (cells (now (t .entry))) (now (evidence .entry)) c ⌝ }
 {
-    let width = bitset::words_for(view::size(t));
-    let at = c * width;
-    let end = at + width;
-    row_keeps(t, c, &evidence[at..end], lives)
+    row_keeps(t, c, rows::row(t, evidence, c), lives)
 }
 
 // The largest cell of the boundary of row c, whose cells are live.
-fn row_top(t: &[u16], evidence: &[u64], c: usize) -> Top
+fn row_largest(t: &[u16], evidence: &[u64], c: usize) -> LargestCell
     requires { ⌜ Frame (viewOf (now t)) ⌝ }
     requires { ⌜ length (now evidence) ≡ evidenceWords (cells (now t)) ⌝ }
     requires { ⌜ c < cells (now t) .size ⌝ }
     requires { ⌜ RowLive (cells (now t)) (now evidence) c ⌝ }
-    ensures { λ r. ⌜ topNumber r ≡ rowTop (cells (now (t .entry))) (now (evidence .entry)) c ⌝ }
+    ensures { λ r. ⌜ largestNumber r ≡ rowLargest (cells (now (t .entry))) (now (evidence .entry)) c ⌝ }
 {
     let b = rows::row_boundary(t, evidence, c);
     bitset::largest(&b)
@@ -111,10 +106,10 @@ fn take_row(t: &[u16], evidence: &[u64], c: usize, met: &mut [u64], lives: &[u64
     if p >= Table::DIMENSIONS {
         return Finding::Closed;
     }
-    let largest = row_top(t, evidence, c);
+    let largest = row_largest(t, evidence, c);
     match largest {
-        Top::Nothing => Finding::Closed,
-        Top::Cell(m) => {
+        LargestCell::Nothing => Finding::Closed,
+        LargestCell::Cell(m) => {
             if bitset::has(met, m) {
                 return Finding::BreaksB;
             }
@@ -189,22 +184,11 @@ fn check_rows(t: &[u16], evidence: &[u64]) -> Checked
     }
 }
 
-// Whether the words are a table's and the evidence has the length for it.
-fn lengths_fit(t: &[u16], evidence: &[u64]) -> bool
-    ensures { λ r. ⌜ r ≡ lengthsFit (now (t .entry)) (now (evidence .entry)) ⌝ }
-{
-    if !Table::fits(t) {
-        return false;
-    }
-    let n = Table::room(t);
-    evidence.len() == n * bitset::words_for(n)
-}
-
 // Tests the evidence by rules A and B. Refused with 1, 2, then 13 or 14 with the first row at fault.
 pub fn check(t: &[u16], evidence: &[u64]) -> Checked
     ensures { λ r. ⌜ Checks (now (t .entry)) (now (evidence .entry)) r ⌝ }
 {
-    if !lengths_fit(t, evidence) {
+    if !rows::lengths_fit(t, evidence) {
         return refused(Refusal::Length);
     }
     let valid = audit::audit(t);

@@ -64,7 +64,7 @@ module _ (t : List ℕ) (ν : ℕ → ℕ) (u : List ℕ) (valid : Valid t) (x :
       let b = x .numbering .gapless (a .cell) m (a .living) (omega (arith, a .number)) in
       subst (Live u) (b .number) (live-there t ν u valid x (b .cell) (b .living))
 
-  pub left-numbered : IsNumbering u (stays u)
+  left-numbered : IsNumbering u (stays u)
   left-numbered =
       record {
         free = stays-free u;

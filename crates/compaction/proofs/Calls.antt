@@ -47,7 +47,7 @@ module _ (t list t′ list′ : List ℕ) (call : Compacts t list Accepted t′ 
   valid = accepted-valid t list yes
 
   -- the list is the new numbers, and 65535 for a number that is no cell's
-  pub call-lists : (c : ℕ) → numberIn list′ c ≡ newNumber t c
+  call-lists : (c : ℕ) → numberIn list′ c ≡ newNumber t c
   call-lists c = ap (λ l. numberIn l c) (call .numbers ∙ ap (λ v. leaves v (newNumbers t) list) yes) ∙ numbers-in t c
 
   -- THEOREM: what the call leaves is the compaction,

@@ -29,7 +29,7 @@ module _ (t : List ℕ) (ν : ℕ → ℕ) (u : List ℕ) (valid : Valid t) (x :
   same-cells = ap (λ n. n / width) (x .size)
 
   -- the live cells are the old ones under their new numbers
-  pub number-inside : (c : ℕ) → Live t c → ν c < cellsOf u
+  number-inside : (c : ℕ) → Live t c → ν c < cellsOf u
   number-inside c l =
       omega (arith, same-cells, one-numbering t ν (newNumber t) (x .numbering) (new-is-numbering t) c, new-inside t c l)
 
@@ -44,7 +44,7 @@ module _ (t : List ℕ) (ν : ℕ → ℕ) (u : List ℕ) (valid : Valid t) (x :
       (taken-or-not t ν i)
 
   -- what holds at every new number holds at every live cell
-  pub at-new : (P : ℕ → Type 0) → ((c : ℕ) → Live t c → P (ν c)) → (i : ℕ) → Live u i → P i
+  at-new : (P : ℕ → Type 0) → ((c : ℕ) → Live t c → P (ν c)) → (i : ℕ) → Live u i → P i
   at-new P h i l = let k = live-from i l in subst P (k .number) (h (k .cell) (k .living))
 
   place-there : (c j : ℕ) → Live t c → j < used (dim u (ν c)) → j < used (dim t c)

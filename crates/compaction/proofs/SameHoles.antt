@@ -50,7 +50,7 @@ module _ (t : List ℕ) (ν : ℕ → ℕ) (u : List ℕ) (valid : Valid t) (x :
   same-place c s j l k h =
       ap (λ z. eqb z (ν s)) (x .kept-face c j l h) ∙ same-test (face t c j) s (valid .face-live c j l h) k
 
-  pub same-odd-face : (c s : ℕ) → Live t c → Live t s → oddFace (viewOf u) (ν c) (ν s) ≡ oddFace (viewOf t) c s
+  same-odd-face : (c s : ℕ) → Live t c → Live t s → oddFace (viewOf u) (ν c) (ν s) ≡ oddFace (viewOf t) c s
   unfolding oddFace
   same-odd-face c s l k =
       ap₂ _&&_ (live-says u (ν c) (live-there t ν u valid x c l) ∙ sym (live-says t c l))
@@ -63,7 +63,7 @@ module _ (t : List ℕ) (ν : ℕ → ℕ) (u : List ℕ) (valid : Valid t) (x :
       let e : oldNumber t ν i ≡ k .cell = ap (oldNumber t ν) (sym (k .number)) ∙ old-of-new t ν (x .numbering) (k .cell) (k .living) in
       (subst (Live t) (sym e) (k .living), ap ν e ∙ k .number)
 
-  pub compaction-renumbers : Renumbering (cells t) (cells u) ν (oldNumber t ν)
+  compaction-renumbers : Renumbering (cells t) (cells u) ν (oldNumber t ν)
   compaction-renumbers =
       record {
         there = λ c i. cell-in u (ν c) (live-there t ν u valid x c (cell-live t c i));

@@ -17,7 +17,7 @@ live-prop : (t : List ℕ) (c : ℕ) → IsProp (Live t c)
 live-prop t c x y = λ i. record { inside = le-prop (x .inside) (y .inside) i; low = le-prop (x .low) (y .low) i }
 
 -- two cells of a table with one number are one cell
-pub same-cell : (t : List ℕ) (p : ℕ) (a b : CellOf t p) → a .number ≡ b .number → a ≡ b
+same-cell : (t : List ℕ) (p : ℕ) (a b : CellOf t p) → a .number ≡ b .number → a ≡ b
 same-cell t p a b e = λ i.
     record {
       number = e i;

@@ -10,8 +10,8 @@ use native.Mathlib.Numerals.{add-one}
 use native.Mathlib.Omega.{arith}
 use lib.ListN.{length}
 use lib.Dec.{eqb}
-use Rattle.bitset.specs.Bits.{bits, member, TopIs, IsGreatest}
-use Rattle.bitset.specs.declared.Top.the-variants.{Nothing}
+use Rattle.bitset.specs.Bits.{bits, member, LargestIs, IsLargestIn}
+use Rattle.bitset.specs.declared.LargestCell.the-variants.{Nothing}
 use Rattle.bitset.proofs.Marks.{true-member, false-member}
 use Rattle.table.specs.Kind.{top, used}
 use Rattle.table.specs.Table.{cellsOf, dim, live}
@@ -45,10 +45,10 @@ module _ (f : ℕ → Bool) where
 
 module _ (marks : List ℕ) where
   -- the largest mark is the last
-  pub none-marked : TopIs marks Nothing → MarkedBelow marks 0
+  pub none-marked : LargestIs marks Nothing → MarkedBelow marks 0
   none-marked h = record { inside = omega arith; last = λ l. absurd (omega arith); none = λ s l. false-member marks s (h s) }
 
-  pub last-marked : (m : ℕ) → IsGreatest marks m → MarkedBelow marks (m + 1)
+  pub last-marked : (m : ℕ) → IsLargestIn marks m → MarkedBelow marks (m + 1)
   last-marked m h =
       record {
         inside = omega (arith, h .inside);

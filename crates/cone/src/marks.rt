@@ -9,7 +9,7 @@ ghost use Rattle.counting.specs.Counting.{someHas};
 ghost use Rattle.calls.specs.Calls.{verdict};
 ghost use Rattle.cone.specs.Cone.{markGrounds};
 ghost use Rattle.cone.specs.Parts.{MarkedBelow, openFace};
-use bitset::Top;
+use bitset::LargestCell;
 use calls::Refusal;
 use calls::Verdict;
 use table::Table;
@@ -21,8 +21,8 @@ pub fn marks_end(marks: &[u64]) -> usize
 {
     let last = bitset::largest(marks);
     match last {
-        Top::Nothing => 0,
-        Top::Cell(m) => m + 1,
+        LargestCell::Nothing => 0,
+        LargestCell::Cell(m) => m + 1,
     }
 }
 

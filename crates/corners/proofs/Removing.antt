@@ -64,7 +64,7 @@ padded-high σ k h l =
     ∙ getD-append-add σ (replicate (faces - length σ) freeMark) (k - length σ) 0
     ∙ getD-replicate (faces - length σ) (k - length σ) freeMark 0 (omega arith)
 
-pub padded-length : (σ : List ℕ) → length σ ≤ faces → length (padded σ) ≡ faces
+padded-length : (σ : List ℕ) → length σ ≤ faces → length (padded σ) ≡ faces
 unfolding padded
 padded-length σ few =
     omega (arith, length-append σ (replicate (faces - length σ) freeMark), length-replicate {A = ℕ} (faces - length σ) freeMark)

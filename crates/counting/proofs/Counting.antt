@@ -90,7 +90,7 @@ module _ (f : ℕ → Bool) where
   abbrev Picked : ℕ → ℕ → ℕ → Type 0
   Picked n k c = (c < n) × (f c ≡ true) × (howMany f c ≡ k)
 
-  pub nth-keeps : (n k : ℕ) → k < howMany f n → nth f n k < n → nth f (suc n) k ≡ nth f n k
+  nth-keeps : (n k : ℕ) → k < howMany f n → nth f n k < n → nth f (suc n) k ≡ nth f n k
   nth-keeps n k h l =
       nth-passed n k (other-rank n k (λ i. omega arith))
       ∙ ap (λ (b : Bool). pick b (suc n) (nth f n k)) (ne-eqb (nth f n k) n (λ i. omega arith))
@@ -123,7 +123,7 @@ module _ (f : ℕ → Bool) where
   pub nth-suc : (n k : ℕ) → k < howMany f n → nth f (suc n) k ≡ nth f n k
   nth-suc n k h = nth-keeps n k h (nth-below n k h)
 
-  pub nth-grows : (m n k : ℕ) → k < howMany f m → m ≤ n → nth f n k ≡ nth f m k
+  nth-grows : (m n k : ℕ) → k < howMany f m → m ≤ n → nth f n k ≡ nth f m k
   nth-grows m zero k h l = let e : m ≡ 0 = omega arith in rw e
   nth-grows m (suc n) k h l =
       ⊎-elim

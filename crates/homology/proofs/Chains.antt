@@ -46,7 +46,7 @@ boundary-member K law x t e =
     (r .0, and-left (x (r .0)) (K .inc (r .0) t) (r .2), law .faces (r .0) t (and-right (x (r .0)) (K .inc (r .0) t) (r .2)))
 
 module _ (K : Cells) (law : Lawful K) where
-  pub boundary-chain : {p : ℕ} {x : Chain} → IsChain K (suc p) x → IsChain K p (boundary K x)
+  boundary-chain : {p : ℕ} {x : Chain} → IsChain K (suc p) x → IsChain K p (boundary K x)
   boundary-chain {p} {x} h = record {
     below = λ t e. (boundary-member K law x t e) .2 .face-below;
     living = λ t e. (boundary-member K law x t e) .2 .face-live;

@@ -79,7 +79,7 @@ module _
   sweeps-on : Sweeping n ls (took .cells) (c + (r - m)) (suc j)
   sweeps-on = subst (λ (x : ℕ). Sweeping n ls (took .cells) x (suc j)) moved (onward .sweeping)
 
-  pub halfway-more : r ≤ room → Halfway n ls room t′ σ (c + (r - m)) r (suc j)
+  halfway-more : r ≤ room → Halfway n ls room t′ σ (c + (r - m)) r (suc j)
   halfway-more h =
       record {
         cells = took .cells;
@@ -89,7 +89,7 @@ module _
         corners = ap (cornersAt (took .cells)) (sym moved) ∙ onward .corners ∙ w .corners;
       }
 
-  pub halfway-full : room < r → room < length (cellList n ls)
+  halfway-full : room < r → room < length (cellList n ls)
   halfway-full h = omega (arith, h, took .count, gathered-most n ls (took .cells) (sweeps-on .swept .gathered))
 
 -- what the loop over the facets of cell c₀ carries, for whatever list of cells the table held at first

@@ -27,8 +27,8 @@ use Rattle.audit.specs.Audit.{sound, invalid, auditGrounds, groundsWith}
 use Rattle.audit.specs.First.{Tells}
 use Rattle.audit.proofs.Naming.{Own, tells-alone, tells-with, unsound-names-first, named-fits}
 use Rattle.complex.specs.Cells.{cells}
-use Rattle.merge.specs.Merge.{pairGrounds as mergePair, mergeVerdict}
-use Rattle.weld.specs.Call.{pairGrounds, weldVerdict}
+use Rattle.merge.specs.Merge.{pairGrounds, onFaces, mergeVerdict}
+use Rattle.weld.specs.Call.{weldVerdict}
 use Rattle.compaction.specs.Call.{compactVerdict}
 use Rattle.cone.specs.Cone.{marksFit, markGrounds, noRoom, coneVerdict}
 use Rattle.reading.specs.Incidence.{cellGrounds, incidenceGrounds}
@@ -36,7 +36,8 @@ use Rattle.reading.specs.Boundary.{lengthsFit, chainGrounds, boundaryVerdict}
 use Rattle.corner.specs.Corner.{ownGrounds, cornerGrounds}
 use Rattle.reducer.specs.Reduce.{reduceVerdict}
 use Rattle.rows.specs.Rows.{evidenceWords}
-use Rattle.checker.specs.Check.{rowGrounds, allRows, evidenceFits, checkVerdict}
+use Rattle.checker.specs.Check.{rowGrounds, allRows, checkVerdict}
+use Rattle.rows.specs.Lengths.{evidenceFits}
 use Rattle.calls.specs.Packed.{WordFits}
 use Rattle.lines.proofs.Decision.{reading}
 use Rattle.intake.specs.Import.{groundsBy, importVerdict}
@@ -54,7 +55,7 @@ tells-audit t r e = tells-alone t [] r tt e
 pub tells-merge : (t : List ℕ) (a b : ℕ) (r : Refusal) → mergeVerdict t a b ≡ Refused r → Tells t r
 unfolding mergeVerdict
 tells-merge t a b r e =
-    tells-alone t (mergePair t a b) r (plain (omega arith), (plain (omega arith), (plain (omega arith), (plain (omega arith), tt)))) e
+    tells-alone t (pairGrounds t a b ++ onFaces t a b) r (plain (omega arith), (plain (omega arith), (plain (omega arith), (plain (omega arith), tt)))) e
 
 pub tells-weld : (t : List ℕ) (a b : ℕ) (r : Refusal) → weldVerdict t a b ≡ Refused r → Tells t r
 unfolding weldVerdict

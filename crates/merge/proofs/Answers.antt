@@ -54,7 +54,7 @@ merge-leaves-same-both-ways t a b =
     ap₂ (λ v u. leaves v u t) (verdict-both-ways t a b) (merged-both-ways t a b)
 
 -- What is left is valid,
-pub merge-keeps-valid : (t : List ℕ) (a b : ℕ) → mergeVerdict t a b ≡ Accepted → Valid (merged t a b)
+merge-keeps-valid : (t : List ℕ) (a b : ℕ) → mergeVerdict t a b ≡ Accepted → Valid (merged t a b)
 merge-keeps-valid t a b e =
     let m = merge-accepted t a b e in
     merged-keeps-valid t a b (m .valid) (m .first) (m .second) (m .same-dim) (m .same-faces)
@@ -73,7 +73,7 @@ merge-accepted-leaves t a b e =
     subst (IsIdentification t a b) (sym (ap (λ v. leaves v (merged t a b) t) e))
     (merged-is-identification t a b (m .valid) (m .first) (m .second) (m .different))
 
-pub merge-refused-leaves : (t : List ℕ) (a b : ℕ) (r : Refusal) → mergeVerdict t a b ≡ Refused r → mergeLeaves t a b ≡ t
+merge-refused-leaves : (t : List ℕ) (a b : ℕ) (r : Refusal) → mergeVerdict t a b ≡ Refused r → mergeLeaves t a b ≡ t
 merge-refused-leaves t a b r e = ap (λ v. leaves v (merged t a b) t) e
 
 -- The ways out of the call.

@@ -35,7 +35,7 @@ module _ (t : List ℕ) (a b : ℕ) (d : dim t a ≡ dim t b) where
       ap₂ take (ap used d)
       (ext-getD 0 (facesOf t a) (facesOf t b) refl (λ j h. faces-at t a (facesOf t a) refl j h ∙ each j h ∙ sym (faces-at t b (facesOf t b) refl j h)))
 
-  pub lists-give-words :
+  lists-give-words :
       Valid t → Live t a → Live t b → faceList t a ≡ faceList t b → (j : ℕ) → j < faces → face t a j ≡ face t b j
   lists-give-words v x y e j h =
       ⊎-elim
@@ -55,7 +55,7 @@ module _ (t : List ℕ) (a b : ℕ) (v : Valid t) (x : Live t a) (y : Live t b) 
   pub equal-lists-accepted : faceList t a ≡ faceList t b → mergeVerdict t a b ≡ Accepted
   equal-lists-accepted e = decided true (same-faces-says t a b (lists-give-words t a b d v x y e))
 
-  pub different-lists-refused : (faceList t a ≡ faceList t b → ⊥) → mergeVerdict t a b ≡ Refused FacesDiffer
+  different-lists-refused : (faceList t a ≡ faceList t b → ⊥) → mergeVerdict t a b ≡ Refused FacesDiffer
   different-lists-refused m = go (sameFaces t a b) refl
     where
       go : (s : Bool) → sameFaces t a b ≡ s → mergeVerdict t a b ≡ Refused FacesDiffer

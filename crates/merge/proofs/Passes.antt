@@ -14,13 +14,13 @@ use lib.Dec.{ltb, eqb}
 use Rattle.counting.specs.Counting.{pick}
 use Rattle.table.specs.Kind.{top, faces, freeMark}
 use Rattle.table.specs.Table.{cellsOf, dim, face, Sized, Valid}
-use Rattle.table.specs.Records.{Record, tableOf, freeRecord, Stored}
+use Rattle.table.specs.Records.{tableOf, freeRecord, Stored}
 use Rattle.counting.proofs.Cases.{below-or-not}
 use Rattle.table.proofs.Words.{length-tableOf, dim-tableOf, face-tableOf, table-by-records}
 use Rattle.table.proofs.Stores.{stored-table}
 use Rattle.merge.specs.Rename.{renamed, identify}
 use Rattle.merge.specs.Merge.{merged}
-use Rattle.merge.specs.Writing.{sent, sentRecord}
+use Rattle.merge.specs.Writing.{sent, sentRecord, passing, partly, Begun}
 use Rattle.merge.proofs.Renaming.{renamed-alike}
 
 -- one word more of a list that is written from its start on
@@ -45,41 +45,39 @@ pub sent-stays : (kept gone f : ℕ) → (f ≡ gone → ⊥) → sent kept gone
 sent-stays kept gone f h = rw (ne-eqb f gone h)
 
 module _ (kept gone : ℕ) (t : List ℕ) where
-  -- the table of which the records below c have gone through the map
-  abbrev passing : ℕ → ℕ → Record
-  passing c d = record { dim = dim t d; face = λ j. pick (ltb d c) (sent kept gone (face t d j)) (face t d j) }
-
-  abbrev pub partly : ℕ → List ℕ
-  partly c = tableOf (cellsOf t) (passing c)
-
-  pub partly-start : Sized t → t ≡ partly 0
+  -- nothing is sent at the start
+  partly-start : Sized t → t ≡ partly kept gone t 0
   partly-start s =
-      table-by-records t (partly 0) (cellsOf t) (s .whole) (length-tableOf (cellsOf t) (passing 0))
+      table-by-records t (partly kept gone t 0) (cellsOf t) (s .whole) (length-tableOf (cellsOf t) (passing kept gone t 0))
       (λ d h.
       record {
-        same-dim = sym (dim-tableOf (cellsOf t) (passing 0) d h);
-        same-face = λ j l. sym (face-tableOf (cellsOf t) (passing 0) d j h l ∙ rw (le-ltb d 0 (omega arith)));
+        same-dim = sym (dim-tableOf (cellsOf t) (passing kept gone t 0) d h);
+        same-face = λ j l. sym (face-tableOf (cellsOf t) (passing kept gone t 0) d j h l ∙ rw (le-ltb d 0 (omega arith)));
       })
 
-  -- the dimensions stay, so where the table is valid no record begins with the number after them
-  dim-stays : (c d : ℕ) (u : List ℕ) → d < cellsOf t → u ≡ partly c → dim u d ≡ dim t d
-  dim-stays c d u h e = ap (λ v. dim v d) e ∙ dim-tableOf (cellsOf t) (passing c) d h
+  pub begun-start : Valid t → Begun kept gone t t 0
+  begun-start v = record { valid = v; size = refl; done = partly-start (v .sized) }
 
-  pub begins-none : Valid t → (c d : ℕ) (u : List ℕ) → d < cellsOf t → u ≡ partly c → dim u d ≡ top + 1 → ⊥
-  begins-none v c d u h e z =
-      let same : dim u d ≡ dim t d = dim-stays c d u h e in
-      ⊎-elim (λ low. omega arith) (λ free. omega arith) (v .records d h)
+  -- the dimensions stay, so where the table is valid no record begins with the number after them
+  dim-stays : (c d : ℕ) (u : List ℕ) → d < cellsOf t → u ≡ partly kept gone t c → dim u d ≡ dim t d
+  dim-stays c d u h e = ap (λ v. dim v d) e ∙ dim-tableOf (cellsOf t) (passing kept gone t c) d h
+
+  pub begins-none : (c d : ℕ) (u : List ℕ) → d < cellsOf u → Begun kept gone t u c → dim u d ≡ top + 1 → ⊥
+  begins-none c d u h b z =
+      let i : d < cellsOf t = omega (arith, b .size) in
+      let same : dim u d ≡ dim t d = dim-stays c d u i (b .done) in
+      ⊎-elim (λ low. omega arith) (λ free. omega arith) (b .valid .records d i)
 
   -- one record more: record c with its own dimension, and its faces sent through the map
   pub partly-more :
-      (c : ℕ) (u u′ : List ℕ) → c < cellsOf t → u ≡ partly c → Stored c (sentRecord kept gone u c) u u′ → u′ ≡ partly (c + 1)
+      (c : ℕ) (u u′ : List ℕ) → c < cellsOf t → u ≡ partly kept gone t c → Stored c (sentRecord kept gone u c) u u′ → u′ ≡ partly kept gone t (c + 1)
   partly-more c u u′ h e s =
-      stored-table (cellsOf t) (passing c) (passing (c + 1)) (sentRecord kept gone u c) u u′ c e s
+      stored-table (cellsOf t) (passing kept gone t c) (passing kept gone t (c + 1)) (sentRecord kept gone u c) u u′ c e s
       (record {
-        same-dim = ap (λ v. dim v c) e ∙ dim-tableOf (cellsOf t) (passing c) c h;
+        same-dim = ap (λ v. dim v c) e ∙ dim-tableOf (cellsOf t) (passing kept gone t c) c h;
         same-face = λ j l.
             ap (λ v. sent kept gone (face v c j)) e
-            ∙ ap (sent kept gone) (face-tableOf (cellsOf t) (passing c) c j h l)
+            ∙ ap (sent kept gone) (face-tableOf (cellsOf t) (passing kept gone t c) c j h l)
             ∙ simp (le-ltb c c (omega arith), lt-ltb c (c + 1) (omega arith));
       })
       (λ d l n.
@@ -92,13 +90,18 @@ module _ (kept gone : ℕ) (t : List ℕ) where
             (below-or-not d c);
       })
 
+  pub begun-more :
+      (c : ℕ) (u u′ : List ℕ) → c < cellsOf u → Begun kept gone t u c → Stored c (sentRecord kept gone u c) u u′ → Begun kept gone t u′ (c + 1)
+  begun-more c u u′ h b s =
+      record { valid = b .valid; size = s .size ∙ b .size; done = partly-more c u u′ (omega (arith, b .size)) (b .done) s }
+
   -- and at the end the freed record
   pub partly-end :
-      (c : ℕ) (u u′ : List ℕ) (g : ℕ → ℕ) → kept < gone → cellsOf t ≤ c → u ≡ partly c →
+      (c : ℕ) (u u′ : List ℕ) (g : ℕ → ℕ) → kept < gone → cellsOf t ≤ c → u ≡ partly kept gone t c →
       Stored gone (record { dim = freeMark; face = g }) u u′ → ((j : ℕ) → j < faces → g j ≡ freeMark) → u′ ≡ merged t kept gone
   unfolding merged renamed
   partly-end c u u′ g less m e s frees =
-      stored-table (cellsOf t) (passing c)
+      stored-table (cellsOf t) (passing kept gone t c)
       (λ d. pick (eqb (sent kept gone d) d) (record { dim = dim t d; face = λ j. sent kept gone (face t d j) }) freeRecord)
       (record { dim = freeMark; face = g }) u u′ gone e s
       (record {

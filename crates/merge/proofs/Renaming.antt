@@ -156,7 +156,7 @@ identify-once a b c =
         ⊎-elim (λ e. ap (identify a b) e ∙ identify-larger a b) (identify-other a b (min a b)) (same-or-not (min a b) (max a b))
 
 -- the order of asking is nothing to it,
-pub identify-both-ways : (a b c : ℕ) → identify a b c ≡ identify b a c
+identify-both-ways : (a b c : ℕ) → identify a b c ≡ identify b a c
 unfolding identify
 identify-both-ways a b c = ap₂ (λ x y. pick (eqb c x) y c) (max-comm a b) (min-comm a b)
 

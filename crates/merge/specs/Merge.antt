@@ -3,7 +3,7 @@
 -- A reader must believe these definitions; nothing here is proved.
 use mathlib.Core.Path.{_≡_}
 use mathlib.Core.Bool.{Bool, _&&_, not}
-use mathlib.Core.List.{List, [], _∷_}
+use mathlib.Core.List.{List, [], _∷_, _++_}
 use Prim.Native.Nat.{ℕ, _<_, min, max}
 use lib.ListN.{length, take}
 use lib.Dec.{eqb}
@@ -35,17 +35,20 @@ faceList t c = take (used (dim t c)) (facesOf t c)
 unfoldable pub sameFaces : List ℕ → ℕ → ℕ → Bool
 sameFaces t a b = all faces (λ j. eqb (face t a j) (face t b j))
 
--- the grounds that speak of the two cells, in their order
+-- the grounds that speak of the two cells, in their order: those of a weld too, which joins their faces
 abbrev pub pairGrounds : List ℕ → ℕ → ℕ → List Ground
 pairGrounds t a b =
     record { refusal = NotLive; applies = not (live t a && live t b) }
     ∷ record { refusal = SameCell; applies = eqb a b }
     ∷ record { refusal = DimensionsDiffer; applies = not (eqb (dim t a) (dim t b)) }
-    ∷ record { refusal = FacesDiffer; applies = not (sameFaces t a b) }
     ∷ []
 
+-- and the merge's last one
+abbrev pub onFaces : List ℕ → ℕ → ℕ → List Ground
+onFaces t a b = record { refusal = FacesDiffer; applies = not (sameFaces t a b) } ∷ []
+
 abbrev pub mergeGrounds : List ℕ → ℕ → ℕ → List Ground
-mergeGrounds t a b = grounds t (pairGrounds t a b)
+mergeGrounds t a b = grounds t (pairGrounds t a b ++ onFaces t a b)
 
 unfoldable pub mergeVerdict : List ℕ → ℕ → ℕ → Verdict
 mergeVerdict t a b = verdict (mergeGrounds t a b)

@@ -1,12 +1,13 @@
 // Merge, the identification of two cells: every face compared, in order; then one pass over the records.
 ghost use mathlib.Core.Path.{_≡_};
-ghost use Prim.Native.Nat.{_+_, _<_};
+ghost use Prim.Native.Nat.{_+_, _≤_, _<_};
 ghost use Rattle.table.specs.Kind.{top};
 ghost use Rattle.table.specs.Table.{cellsOf, dim as dimOf, face as faceOf, Valid};
 ghost use Rattle.table.specs.Records.{Stored};
+ghost use Rattle.audit.specs.Audit.{grounds};
 ghost use Rattle.calls.specs.Calls.{verdict, Ends};
 ghost use Rattle.merge.specs.Merge.{sameFaces, pairGrounds, mergeVerdict, mergeAnswer, mergeLeaves, merged};
-ghost use Rattle.merge.specs.Writing.{sent as sentTo, sentRecord};
+ghost use Rattle.merge.specs.Writing.{sent as sentTo, sentRecord, Started, GoesOn};
 use calls::Named;
 use calls::Refusal;
 use calls::Verdict;
@@ -59,6 +60,21 @@ fn rename(t: &mut [u16], c: usize, kept: u16, gone: u16)
     Table::put(t, c, p, y);
 }
 
+// Renames the faces of the records from one number up to another, where the pass stands before the first of them.
+fn rename_run(t: &mut [u16], from: usize, to: usize, kept: u16, gone: u16)
+    requires { ⌜ (from ≤ to) × (to ≤ cellsOf (now t)) × (Started kept gone (now t) from) ⌝ }
+    ensures { λ _. ⌜ GoesOn kept gone (now (t .entry)) from (now (t .exit)) to ⌝ }
+{
+    let mut c = from;
+    while c < to {
+        rename(t, c, kept, gone);
+        c += 1;
+    }
+}
+
+// So many records are renamed in one turn, so that the loop itself costs little beside them.
+const GROUP: usize = 4;
+
 // Every face word, in every record, that names the freed number names the kept one; then the freed record's words are free.
 fn join(t: &mut [u16], kept: u16, gone: u16)
     requires { ⌜ (kept < gone) × (gone < cellsOf (now t)) × Valid (now t) ⌝ }
@@ -66,14 +82,15 @@ fn join(t: &mut [u16], kept: u16, gone: u16)
 {
     let n = Table::room(t);
     let mut c = 0;
-    while c < n {
-        rename(t, c, kept, gone);
-        c += 1;
+    while c + GROUP <= n {
+        rename_run(t, c, c + GROUP, kept, gone);
+        c += GROUP;
     }
+    rename_run(t, c, n, kept, gone);
     Table::put(t, gone as usize, Table::FREE, [Table::FREE; Table::FACES]);
 }
 
-// What the two cells say to their merge, in a table that is valid: refused with 3 to 6, in that order.
+// What the two cells say to being joined, in a table that is valid: refused with 3 to 5, in that order.
 fn pair_verdict(t: &[u16], a: u16, b: u16) -> Verdict
     ensures { λ r. ⌜ r ≡ verdict (pairGrounds (now (t .entry)) a b) ⌝ }
 {
@@ -89,19 +106,32 @@ fn pair_verdict(t: &[u16], a: u16, b: u16) -> Verdict
     if Table::dim(t, a as usize) != Table::dim(t, b as usize) {
         return Verdict::Refused(Refusal::DimensionsDiffer);
     }
-    if !same_faces(t, a as usize, b as usize) {
-        return Verdict::Refused(Refusal::FacesDiffer);
-    }
     Verdict::Accepted
 }
 
-// What a merge of a and b is answered: the audit's refusals 1 and 2 first, then those of the pair.
-fn verdict_of(t: &[u16], a: u16, b: u16) -> Verdict
-    ensures { λ r. ⌜ r ≡ mergeVerdict (now (t .entry)) a b ⌝ }
+// Whether a and b may be joined, whatever their faces are: the audit's refusals 1 and 2 first, then those of the pair. A weld asks no more.
+pub fn joinable(t: &[u16], a: u16, b: u16) -> Verdict
+    ensures { λ r. ⌜ r ≡ verdict (grounds (now (t .entry)) (pairGrounds (now (t .entry)) a b)) ⌝ }
 {
     let found = audit::audit(t);
     match found {
         Verdict::Accepted => pair_verdict(t, a, b),
+        Verdict::Refused(r) => Verdict::Refused(r),
+    }
+}
+
+// What a merge of a and b is answered: where they may be joined, their faces decide.
+fn verdict_of(t: &[u16], a: u16, b: u16) -> Verdict
+    ensures { λ r. ⌜ r ≡ mergeVerdict (now (t .entry)) a b ⌝ }
+{
+    let found = joinable(t, a, b);
+    match found {
+        Verdict::Accepted => {
+            if !same_faces(t, a as usize, b as usize) {
+                return Verdict::Refused(Refusal::FacesDiffer);
+            }
+            Verdict::Accepted
+        }
         Verdict::Refused(r) => Verdict::Refused(r),
     }
 }

@@ -12,13 +12,13 @@ use Rattle.partlist.specs.Cells.{Earlier, comparedCells}
 use Rattle.partlist.proofs.Sorting.{Tells, numbers-tell}
 
 -- two different answers of a comparison
-pub less-same : {A : Type 0} → less ≡ same → A
+less-same : {A : Type 0} → less ≡ same → A
 less-same e = absurd (let z : _≡_ {A = ℕ} 0 1 = cc in omega arith)
 
-pub less-more : {A : Type 0} → less ≡ more → A
+less-more : {A : Type 0} → less ≡ more → A
 less-more e = absurd (let z : _≡_ {A = ℕ} 0 1 = cc in omega arith)
 
-pub same-more : {A : Type 0} → same ≡ more → A
+same-more : {A : Type 0} → same ≡ more → A
 same-more e = absurd (let z : _≡_ {A = ℕ} 0 1 = cc in omega arith)
 
 on-less : (l m : List ℕ) → comparedLists l m ≡ less → Before l m

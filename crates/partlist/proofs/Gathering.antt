@@ -113,7 +113,7 @@ module _ (n : ℕ) (ls : List (List ℕ)) (l : List ℕ) where
   sorted-some [] h = absurd (omega arith)
   sorted-some (a ∷ m) h = length-some (sortedUp comparedNumbers (a ∷ m)) a (sorted-has _<_ comparedNumbers numbers-tell a (a ∷ m) (here refl))
 
-  pub sorted-line-cell : IsLine l → IsCell n (ls ++ (l ∷ [])) (sortedUp comparedNumbers l)
+  sorted-line-cell : IsLine l → IsCell n (ls ++ (l ∷ [])) (sortedUp comparedNumbers l)
   sorted-line-cell h =
       record {
         rising = sorted-up _<_ comparedNumbers numbers-tell l;

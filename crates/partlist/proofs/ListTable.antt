@@ -191,7 +191,7 @@ module _ (cs : List (List ℕ)) (complete : Complete cs) where
         ∙ sym (face-of-face c l j live two (omega arith) (omega arith))
         ∙ ap (face t (face t c l)) (sym d)
 
-    pub table-valid : Valid t
+    table-valid : Valid t
     table-valid =
         record {
           sized = record { whole = omega (arith, length-tableOf n (cellAt cs)); some = omega (arith, cells); room = omega (arith, cells) };

@@ -46,7 +46,7 @@ module _ (n : ℕ) (ls cs : List (List ℕ)) (σ : List ℕ) (k : ℕ) (fit : Fi
   pub put-sorted : Sorted Earlier cs → Sorted Earlier (putAt k σ cs)
   put-sorted s = subst (λ (l : List (List ℕ)). Sorted Earlier l) inserted (insert-sorted Earlier comparedCells cells-tell σ cs s)
 
-  pub put-gathered : IsCell n ls σ → Gathered n ls cs → Gathered n ls (putAt k σ cs)
+  put-gathered : IsCell n ls σ → Gathered n ls cs → Gathered n ls (putAt k σ cs)
   put-gathered is g =
       record {
         sorted = put-sorted (g .sorted);

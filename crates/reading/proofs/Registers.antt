@@ -32,27 +32,32 @@ turned-odd : (j : ℕ) (z : ℤ) → (j % 2 ≡ 0 → ⊥) → turned j z ≡ ne
 unfolding turned
 turned-odd j z h = rw (ne-eqb (j % 2) 0 h)
 
--- the sum at one place, through registers
-module _ (y : List ℤ) (u j : ℕ) (x : ℤ) (old : SFits w64 (getD y u (pos 0))) (new : SFits w64 x) (sum : SFits w64 (getD y u (pos 0) +ℤ turned j x)) where
+-- the sum at one place, through registers: the number there, the coefficient and their sum all fit
+pub record Summing (y : List ℤ) (u j : ℕ) (x : ℤ) : Type 0 where
+  pub old : SFits w64 (getD y u (pos 0))
+  pub new : SFits w64 x
+  pub sum : SFits w64 (getD y u (pos 0) +ℤ turned j x)
+
+module _ {y : List ℤ} {u j : ℕ} {x : ℤ} (s : Summing y u j x) where
   pub even-fits : j % 2 ≡ 0 → SFits w64 (back (getD y u (pos 0)) +ℤ back x)
-  even-fits e = rw (back-is (getD y u (pos 0)) old, back-is x new, ← turned-even j x e) sum
+  even-fits e = rw (back-is (getD y u (pos 0)) (s .old), back-is x (s .new), ← turned-even j x e) (s .sum)
 
   pub odd-fits : (j % 2 ≡ 0 → ⊥) → SFits w64 (back (getD y u (pos 0)) -ℤ back x)
-  odd-fits h = rw (back-is (getD y u (pos 0)) old, back-is x new, ← turned-odd j x h) sum
+  odd-fits h = rw (back-is (getD y u (pos 0)) (s .old), back-is x (s .new), ← turned-odd j x h) (s .sum)
 
   pub even-puts : j % 2 ≡ 0 → set y u (back (back (getD y u (pos 0)) +ℤ back x)) ≡ put y u j x
   even-puts e =
       ap (set y u)
       (back-is (back (getD y u (pos 0)) +ℤ back x) (even-fits e)
-      ∙ ap (λ (z : ℤ). z +ℤ back x) (back-is (getD y u (pos 0)) old)
-      ∙ ap (λ (z : ℤ). getD y u (pos 0) +ℤ z) (back-is x new ∙ sym (turned-even j x e)))
+      ∙ ap (λ (z : ℤ). z +ℤ back x) (back-is (getD y u (pos 0)) (s .old))
+      ∙ ap (λ (z : ℤ). getD y u (pos 0) +ℤ z) (back-is x (s .new) ∙ sym (turned-even j x e)))
 
   pub odd-puts : (j % 2 ≡ 0 → ⊥) → set y u (back (back (getD y u (pos 0)) -ℤ back x)) ≡ put y u j x
   odd-puts h =
       ap (set y u)
       (back-is (back (getD y u (pos 0)) -ℤ back x) (odd-fits h)
-      ∙ ap (λ (z : ℤ). z -ℤ back x) (back-is (getD y u (pos 0)) old)
-      ∙ ap (λ (z : ℤ). getD y u (pos 0) +ℤ z) (ap negℤ (back-is x new) ∙ sym (turned-odd j x h)))
+      ∙ ap (λ (z : ℤ). z -ℤ back x) (back-is (getD y u (pos 0)) (s .old))
+      ∙ ap (λ (z : ℤ). getD y u (pos 0) +ℤ z) (ap negℤ (back-is x (s .new)) ∙ sym (turned-odd j x h)))
 
 -- a coefficient against the two ends of its range
 abbrev pub lowest : ℤ

@@ -7,9 +7,9 @@ use Prim.Native.Nat.{ℕ, zero, suc, _*_, _≤_, _<_}
 use native.Mathlib.Omega.{arith}
 use lib.ListN.{length}
 use Rattle.homology.proofs.Marks.{by-order, clash}
-use Rattle.bitset.specs.Bits.{bits, member, sumOf, IsGreatest}
+use Rattle.bitset.specs.Bits.{bits, member, sumOf, IsLargestIn}
 use Rattle.bitset.proofs.Marks.{true-member, false-member}
-use Rattle.bitset.proofs.Greatest.{sum-of-tops-empty}
+use Rattle.bitset.proofs.LargestMember.{sum-from-largest-empty}
 use Rattle.reducer.proofs.Computed.{largestBelow, largest-found, largest-none, largest-at-most}
 
 unfoldable pub height : List ℕ → ℕ
@@ -32,10 +32,10 @@ above-member n m x l e = go (largestBelow n x) refl
     go (suc k) q = by-order m k (λ i. omega arith) (λ i. omega arith) (λ i. clash e (largest-found n x k q .2 m i l))
 
 -- adding a set with the same largest member
-pub height-falls : (x y : List ℕ) (m : ℕ) → length x ≡ length y → IsGreatest x m → IsGreatest y m → height (sumOf x y) < height x
+pub height-falls : (x y : List ℕ) (m : ℕ) → length x ≡ length y → IsLargestIn x m → IsLargestIn y m → height (sumOf x y) < height x
 unfolding height
 height-falls x y m e g h = omega (
   arith,
-  largest-at-most (bits * length (sumOf x y)) m (member (sumOf x y)) (λ s l. false-member (sumOf x y) s (sum-of-tops-empty x y m e g h s l)),
+  largest-at-most (bits * length (sumOf x y)) m (member (sumOf x y)) (λ s l. false-member (sumOf x y) s (sum-from-largest-empty x y m e g h s l)),
   above-member (bits * length x) m (member x) (g .inside) (true-member x m (g .in-set)),
 )

@@ -8,8 +8,8 @@ use lib.ListN.{length, getD, set, length-set}
 use lib.Seq.{getD-set-same, getD-set-other}
 use Rattle.homology.specs.Cells.{Cells}
 use Rattle.homology.proofs.Marks.{by-order}
-use Rattle.bitset.specs.Bits.{IsGreatest}
-use Rattle.bitset.proofs.Greatest.{greatest-unique}
+use Rattle.bitset.specs.Bits.{IsLargestIn}
+use Rattle.bitset.proofs.LargestMember.{largest-unique}
 use Rattle.table.specs.Kind.{capacity, freeMark}
 use Rattle.counting.proofs.Cases.{same-or-other}
 use Rattle.rows.specs.Rows.{rowOf}
@@ -39,9 +39,9 @@ module _ {K : Cells} {ev kept owner : List ℕ} {c : ℕ} (own : Owned K ev kept
   }
 
   -- row c has the boundary x with the largest cell m
-  module _ {x : List ℕ} (is : Bounds K x (rowOf K ev c)) {m : ℕ} (largest : IsGreatest x m) where
+  module _ {x : List ℕ} (is : Bounds K x (rowOf K ev c)) {m : ℕ} (largest : IsLargestIn x m) where
     one : (i : ℕ) → LargestOf K (rowOf K ev c) i → i ≡ m
-    one i g = greatest-unique x i m (of-largest is g) largest
+    one i g = largest-unique x i m (of-largest is g) largest
 
     -- where m is free, no earlier row has the same largest cell
     pub free-alone : getD owner m 0 ≡ freeMark → (b i : ℕ) → b < c → LargestOf K (rowOf K ev c) i → LargestOf K (rowOf K ev b) i → ⊥
@@ -75,7 +75,7 @@ module _ {K : Cells} {ev kept owner : List ℕ} {c : ℕ} (own : Owned K ev kept
         bounds = λ i l. same-or-other (λ i. (owner′ i ≡ freeMark → ⊥) → Bounds K (rowOf K kept′ i) (rowOf K ev (owner′ i))) i m
             (λ h. rw (row, here) is)
             (λ apart h. rw (others i apart, there i apart) (own .bounds i (long i l) (λ q. h (there i apart ∙ q))));
-        largest = λ i l. same-or-other (λ i. (owner′ i ≡ freeMark → ⊥) → IsGreatest (rowOf K kept′ i) i) i m
+        largest = λ i l. same-or-other (λ i. (owner′ i ≡ freeMark → ⊥) → IsLargestIn (rowOf K kept′ i) i) i m
             (λ h. rw row largest)
             (λ apart h. rw (others i apart) (own .largest i (long i l) (λ q. h (there i apart ∙ q))));
       }

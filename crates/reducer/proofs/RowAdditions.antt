@@ -7,7 +7,7 @@ use Prim.Native.Nat.{ℕ, suc, _+_, _*_, _^_, _≤_, _<_}
 use native.Mathlib.Omega.{arith}
 use lib.ListN.{length, getD, set, length-set}
 use Rattle.homology.specs.Cells.{Cells}
-use Rattle.bitset.specs.Bits.{bits, mark, sumOf, IsGreatest}
+use Rattle.bitset.specs.Bits.{bits, mark, sumOf, IsLargestIn}
 use Rattle.bitset.specs.Rows.{rowAt, RowAdded, RowKept}
 use Rattle.bitset.proofs.Marks.{length-sum}
 use Rattle.bitset.proofs.RowLaws.{row-before, length-row}
@@ -80,10 +80,10 @@ module _ {K : Cells} {c w : ℕ} {ev₁ x ev kept owner : List ℕ} {n : ℕ} (s
   ends-empty empty = ends kept owner refl refl (λ b m l g h. none m g) (owned-more (so .owned) none)
     where
       none : (m : ℕ) → LargestOf K (rowOf K ev c) m → ⊥
-      none m g = let largest : IsGreatest x m = of-largest (so .bounds) g in omega (arith, largest .in-set, empty m)
+      none m g = let largest : IsLargestIn x m = of-largest (so .bounds) g in omega (arith, largest .in-set, empty m)
 
   -- its largest cell has its place among the owners, and its words among the boundaries
-  module _ {m : ℕ} (largest : IsGreatest x m) where
+  module _ {m : ℕ} (largest : IsLargestIn x m) where
     pub place : m < length owner
     place = omega (arith, largest .inside, so .long, so .width, so .roomy .owners)
 
@@ -106,7 +106,7 @@ module _ {K : Cells} {c w : ℕ} {ev₁ x ev kept owner : List ℕ} {n : ℕ} (s
       pub add-asks : (a < c) × (c * w + w ≤ length ev)
       add-asks = (so .owned .earlier m place taken, row-room K ev c w (so .width) (so .roomy .evidence) (so .inside))
 
-      largest-kept : IsGreatest (rowOf K kept m) m
+      largest-kept : IsLargestIn (rowOf K kept m) m
       largest-kept = so .owned .largest m place taken
 
       bounds-a : Bounds K (rowOf K kept m) (rowOf K ev a)

@@ -3,8 +3,7 @@
 use mathlib.Core.Path.{_≡_}
 use mathlib.Core.List.{List, []}
 use Prim.Native.Nat.{ℕ}
-use lib.ListN.{length, replicate}
-use lib.Dec.{eqb}
+use lib.ListN.{replicate}
 use Rattle.counting.specs.Counting.{listed}
 use Rattle.homology.specs.Cells.{Cells}
 use Rattle.table.specs.Kind.{dimensions}
@@ -14,13 +13,13 @@ use Rattle.calls.specs.declared.Verdict.{Verdict}
 use Rattle.calls.specs.declared.Verdict.the-variants.{Accepted, Refused}
 use Rattle.audit.specs.Audit.{groundsWith}
 use Rattle.complex.specs.Cells.{cells}
-use Rattle.rows.specs.Rows.{evidenceWords}
+use Rattle.rows.specs.Lengths.{evidenceFits}
 use Rattle.reducer.specs.Rule.{ByRule, additionsIn}
 use Rattle.reducer.specs.declared.Reduced.{Reduced}
 
 -- the reducer has no grounds of its own beside the lengths and the table's validity
 abbrev pub reduceGrounds : List ℕ → List ℕ → List Ground
-reduceGrounds t ev = groundsWith t (eqb (length ev) (evidenceWords (cells t))) []
+reduceGrounds t ev = groundsWith t (evidenceFits t ev) []
 
 unfoldable pub reduceVerdict : List ℕ → List ℕ → Verdict
 reduceVerdict t ev = verdict (reduceGrounds t ev)

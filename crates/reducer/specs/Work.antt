@@ -6,7 +6,7 @@ use Prim.Native.Nat.{ℕ, suc, _*_, _<_, _≤_}
 use lib.ListN.{length, getD}
 use Rattle.homology.specs.Cells.{Cells}
 use Rattle.homology.specs.Holes.{boundary}
-use Rattle.bitset.specs.Bits.{bits, member, IsGreatest}
+use Rattle.bitset.specs.Bits.{bits, member, IsLargestIn}
 use Rattle.table.specs.Kind.{capacity, freeMark}
 use Rattle.rows.specs.Rows.{rowWidth, evidenceWords, rowOf}
 use Rattle.reducer.specs.Rule.{Additions, LargestOf, alone, emptyRow}
@@ -31,7 +31,7 @@ pub record Owned (K : Cells) (ev kept owner : List ℕ) (c : ℕ) : Type 0 where
   pub free : (m b : ℕ) → getD owner m 0 ≡ freeMark → b < c → LargestOf K (rowOf K ev b) m → ⊥
   pub earlier : (m : ℕ) → m < length owner → (getD owner m 0 ≡ freeMark → ⊥) → getD owner m 0 < c
   pub bounds : (m : ℕ) → m < length owner → (getD owner m 0 ≡ freeMark → ⊥) → Bounds K (rowOf K kept m) (rowOf K ev (getD owner m 0))
-  pub largest : (m : ℕ) → m < length owner → (getD owner m 0 ≡ freeMark → ⊥) → IsGreatest (rowOf K kept m) m
+  pub largest : (m : ℕ) → m < length owner → (getD owner m 0 ≡ freeMark → ⊥) → IsLargestIn (rowOf K kept m) m
 
 -- the three buffers are large enough for the cells
 pub record Roomy (K : Cells) (ev kept owner : List ℕ) : Type 0 where

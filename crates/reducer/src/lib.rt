@@ -9,7 +9,7 @@ ghost use Rattle.complex.specs.Cells.{cells};
 ghost use Rattle.rows.specs.Rows.{rowWidth, evidenceWords};
 ghost use Rattle.reducer.specs.Reduce.{Reduces, Reduction, reduceVerdict};
 ghost use Rattle.reducer.specs.Work.{small, middleWords, middle, Roomy, Ready, Begun, Finished, Blank, Fresh, Cleared};
-use bitset::Top;
+use bitset::LargestCell;
 use calls::Refusal;
 use calls::Verdict;
 use rows::view;
@@ -50,10 +50,10 @@ fn finish_row(
     loop {
         let largest = bitset::largest(b);
         match largest {
-            Top::Nothing => {
+            LargestCell::Nothing => {
                 return additions;
             }
-            Top::Cell(m) => {
+            LargestCell::Cell(m) => {
                 let a = owner[m];
                 if a == Table::FREE {
                     owner[m] = c as u16;
@@ -185,11 +185,7 @@ fn fill(t: &[u16], evidence: &mut [u64]) -> [u64; Table::DIMENSIONS]
 fn judge(t: &[u16], evidence: &[u64]) -> Verdict
     ensures { λ r. ⌜ r ≡ reduceVerdict (now (t .entry)) (now (evidence .entry)) ⌝ }
 {
-    if !Table::fits(t) {
-        return Verdict::Refused(Refusal::Length);
-    }
-    let n = view::size(t);
-    if evidence.len() != n * bitset::words_for(n) {
+    if !rows::lengths_fit(t, evidence) {
         return Verdict::Refused(Refusal::Length);
     }
     audit::audit(t)

@@ -37,7 +37,7 @@ module _ (K : Cells) (law : Lawful K) where
   face-face c t e = let f = law .faces c t e in record { below = f .face-below; living = f .face-live }
 
 module _ (K K′ : Cells) (σ τ : ℕ → ℕ) (a : Renumbering K K′ σ τ) where
-  pub carried-chain : (p : ℕ) (x : Chain) → IsChain K p x → IsChain K′ p (carried K′ τ x)
+  carried-chain : (p : ℕ) (x : Chain) → IsChain K p x → IsChain K′ p (carried K′ τ x)
   carried-chain p x h =
       record {
         below = λ d e. (inside d e) .below;
@@ -52,7 +52,7 @@ module _ (K K′ : Cells) (σ τ : ℕ → ℕ) (a : Renumbering K K′ σ τ) w
       inside d e = in-true K′ d (and-left (isIn K′ d) (x (τ d)) e)
 
   -- there and back is nothing, for cells alone
-  pub there-and-back : (x : Chain) → ((c : ℕ) → x c ≡ true → CellIn K c) → (c : ℕ) → carried K σ (carried K′ τ x) c ≡ x c
+  there-and-back : (x : Chain) → ((c : ℕ) → x c ≡ true → CellIn K c) → (c : ℕ) → carried K σ (carried K′ τ x) c ≡ x c
   there-and-back x h c =
       under (isIn K c) (isIn K′ (σ c) && x (τ (σ c))) (x c)
       (λ e. let i = in-true K c e in ap (λ b. b && x (τ (σ c))) (in-says K′ (σ c) (a .there c i)) ∙ ap x (a .there-back c i))
@@ -77,7 +77,7 @@ module _ (K K′ : Cells) (σ τ : ℕ → ℕ) (a : Renumbering K K′ σ τ) w
         odd-off (K′ .size) _ (λ d l. not-true-false (carried K′ τ x d && K′ .inc d u) (λ q.
         clash (in-says K′ u (face-face K′ law′ d u (and-right (carried K′ τ x d) (K′ .inc d u) q))) e))
 
-    pub boundary-carried : (u : ℕ) → boundary K′ (carried K′ τ x) u ≡ carried K′ τ (boundary K x) u
+    boundary-carried : (u : ℕ) → boundary K′ (carried K′ τ x) u ≡ carried K′ τ (boundary K x) u
     boundary-carried u =
         by-mark (isIn K′ u)
         (λ e. at-cell u (in-true K′ u e) ∙ sym (ap (λ b. b && boundary K x (τ u)) e))

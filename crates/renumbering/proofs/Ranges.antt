@@ -18,7 +18,7 @@ unfolding odd
 odd-off zero f h = refl
 odd-off (suc n) f h = ap₂ _⊻_ (odd-off n f (λ c l. h c (omega arith))) (h n (omega arith))
 
-pub odd-single : (n : ℕ) (f : ℕ → Bool) (a : ℕ) → a < n → ((c : ℕ) → (c ≡ a → ⊥) → f c ≡ false) → odd n f ≡ f a
+odd-single : (n : ℕ) (f : ℕ → Bool) (a : ℕ) → a < n → ((c : ℕ) → (c ≡ a → ⊥) → f c ≡ false) → odd n f ≡ f a
 unfolding odd
 odd-single zero f a l h = absurd (omega arith)
 odd-single (suc n) f a l h =

@@ -44,7 +44,7 @@ picked-cells K p (b ∷ s) (x ∷ xs) h c e =
     (picked-cells K p s xs (h .1) c)
 
 module _ (K K′ : Cells) (σ τ : ℕ → ℕ) (a : Renumbering K K′ σ τ) (law : Lawful K) (law′ : Lawful K′) (p : ℕ) where
-  pub carried-independent : (xs : List Chain) → Independent K p xs → Independent K′ p (map (carried K′ τ) xs)
+  carried-independent : (xs : List Chain) → Independent K p xs → Independent K′ p (map (carried K′ τ) xs)
   carried-independent xs i =
       let all : Every (IsCycle K p) xs = at-every (IsCycle K p) xs (i .cycles) in
       record {
@@ -57,7 +57,7 @@ module _ (K K′ : Cells) (σ τ : ℕ → ℕ) (a : Renumbering K K′ σ τ) (
             (subst (IsBoundary K′ p) (fun-ext (picked-carried K′ τ s xs)) b));
       }
 
-pub holes-carried :
+holes-carried :
     (K K′ : Cells) (σ τ : ℕ → ℕ) → Renumbering K K′ σ τ → Lawful K → Lawful K′ → (p b : ℕ) → IsHoleNumber K p b → IsHoleNumber K′ p b
 holes-carried K K′ σ τ a law law′ p b h =
     record {

@@ -1,6 +1,6 @@
 -- Rows of evidence: how many words a row has, which, and what they are as sets of cells.
 -- What carries it: the laws of rows of words, at the width of the table's. Assumes nothing.
-use mathlib.Core.Path.{_≡_}
+use mathlib.Core.Path.{_≡_, ap}
 use mathlib.Core.List.{List}
 use Prim.Native.Nat.{ℕ, _+_, _*_, _≤_, _<_}
 use native.Mathlib.Omega.{arith}
@@ -8,6 +8,7 @@ use lib.ListN.{length, getD}
 use Rattle.homology.specs.Cells.{Cells}
 use Rattle.homology.specs.Evidence.{RuleA}
 use Rattle.homology.proofs.Marks.{by-mark, clash}
+use Rattle.bitset.specs.Rows.{rowAt}
 use Rattle.bitset.proofs.RowLaws.{row-fits, length-row, getD-row}
 use Rattle.table.specs.Kind.{capacity}
 use Rattle.bitset.specs.Bits.{fullWidth}
@@ -23,6 +24,11 @@ module _ (K : Cells) (ev : List ℕ) (long : length ev ≡ evidenceWords K) (c :
   pub length-rowOf : length (rowOf K ev c) ≡ rowWidth K
   unfolding rowOf
   length-rowOf = length-row (rowWidth K) ev c row-ends
+
+-- the row of the evidence at a width that is the rows'
+pub row-at-width : (K : Cells) (ev : List ℕ) (c w : ℕ) → w ≡ rowWidth K → rowAt w ev c ≡ rowOf K ev c
+unfolding rowOf
+row-at-width K ev c w e = ap (λ (k : ℕ). rowAt k ev c) e
 
 pub getD-rowOf : (K : Cells) (ev : List ℕ) (c k : ℕ) → k < rowWidth K → getD (rowOf K ev c) k 0 ≡ getD ev (c * rowWidth K + k) 0
 unfolding rowOf

@@ -15,8 +15,8 @@ use Rattle.homology.specs.Holes.{Chain, none, sum}
 use Rattle.homology.specs.Evidence.{IsLargest}
 use Rattle.homology.proofs.Marks.{by-mark}
 use Rattle.homology.proofs.Tops.{Below, Empty, member-below, largest-cong}
-use Rattle.bitset.specs.Bits.{bits, member, toggled, sumOf, TopIs, nothingIn, fullWidth}
-use Rattle.bitset.specs.declared.Top.the-variants.{Nothing, Cell}
+use Rattle.bitset.specs.Bits.{bits, member, toggled, sumOf, LargestIs, nothingIn, fullWidth}
+use Rattle.bitset.specs.declared.LargestCell.the-variants.{Nothing, Cell}
 use Rattle.bitset.proofs.Marks.{member-true, member-false, true-member, false-member, length-toggled, length-sum}
 use Rattle.bitset.proofs.Words.{sets-decide, sum-words, toggled-words, nothing-in-marks, marks-nothing-in}
 use Rattle.rows.specs.Rows.{SetIs}
@@ -24,16 +24,16 @@ use Rattle.rows.proofs.Members.{member-toggled, member-sum, member-zero
 
 -- ---- the largest member
 
-pub top-is-largest : (ws : List ℕ) (m : ℕ) → TopIs ws (Cell m) → IsLargest (member ws) m
-top-is-largest ws m h = record { member = true-member ws m (h .in-set); above = λ s l. false-member ws s (h .above s l) }
+pub words-largest : (ws : List ℕ) (m : ℕ) → LargestIs ws (Cell m) → IsLargest (member ws) m
+words-largest ws m h = record { member = true-member ws m (h .in-set); above = λ s l. false-member ws s (h .above s l) }
 
-pub nothing-is-empty : (ws : List ℕ) → TopIs ws Nothing → Empty (member ws)
+nothing-is-empty : (ws : List ℕ) → LargestIs ws Nothing → Empty (member ws)
 nothing-is-empty ws h s = false-member ws s (h s)
 
-pub set-top-largest : {x : Chain} (ws : List ℕ) (m : ℕ) → SetIs ws x → TopIs ws (Cell m) → IsLargest x m
-set-top-largest ws m set h = largest-cong (set .same) (top-is-largest ws m h)
+pub set-largest : {x : Chain} (ws : List ℕ) (m : ℕ) → SetIs ws x → LargestIs ws (Cell m) → IsLargest x m
+set-largest ws m set h = largest-cong (set .same) (words-largest ws m h)
 
-pub set-top-empty : {x : Chain} (ws : List ℕ) → SetIs ws x → TopIs ws Nothing → Empty x
-set-top-empty ws set h s = sym (set .same s) ∙ nothing-is-empty ws h s
+pub set-largest-empty : {x : Chain} (ws : List ℕ) → SetIs ws x → LargestIs ws Nothing → Empty x
+set-largest-empty ws set h s = sym (set .same s) ∙ nothing-is-empty ws h s
 
 -- ---- whether there is a member, as the hole count asks it of the numbers below n

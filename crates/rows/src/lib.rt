@@ -1,5 +1,5 @@
-// Rows of evidence: the faces of a cell added into a set, and a row's boundary mod 2. Both are parts of reducer and checker, which
-// show what each one asks; neither is a public call.
+// Rows of evidence: whether it has the length for a table, where a row lies, the faces of a cell added into a set, and a row's boundary
+// mod 2. These are parts of reducer and checker, which show what each one asks; none is a public call.
 ghost use mathlib.Core.Path.{_≡_};
 ghost use mathlib.Core.Bool.{true};
 ghost use Prim.Native.Nat.{_<_};
@@ -8,8 +8,10 @@ ghost use Rattle.homology.specs.Holes.{boundary};
 ghost use Rattle.complex.specs.View.{viewOf, Frame};
 ghost use Rattle.complex.specs.Cells.{cells};
 ghost use Rattle.bitset.specs.Bits.{fullWidth};
-ghost use Rattle.rows.specs.Rows.{evidenceWords, rows, SetIs, FacesAdded, RowLive};
+ghost use Rattle.rows.specs.Rows.{evidenceWords, rowOf, rows, SetIs, FacesAdded, RowLive};
 ghost use Rattle.rows.specs.Word.{WordLive, WordAdded};
+ghost use Rattle.rows.specs.Lengths.{lengthsFit};
+use table::Table;
 
 pub mod view;
 
@@ -43,20 +45,40 @@ fn add_word(t: &[u16], w: usize, word: u64, into: &mut [u64])
     }
 }
 
+// Whether the words are a table's and the evidence has the length for it.
+pub fn lengths_fit(t: &[u16], evidence: &[u64]) -> bool
+    ensures { λ r. ⌜ r ≡ lengthsFit (now (t .entry)) (now (evidence .entry)) ⌝ }
+{
+    if !Table::fits(t) {
+        return false;
+    }
+    let n = Table::room(t);
+    evidence.len() == n * bitset::words_for(n)
+}
+
+// Row c of the evidence, where it lies.
+pub fn row<'a>(t: &[u16], evidence: &'a [u64], c: usize) -> &'a [u64]
+    requires { ⌜ length (now evidence) ≡ evidenceWords (cells (now t)) ⌝ }
+    requires { ⌜ c < cells (now t) .size ⌝ }
+    ensures { λ r. ⌜ now r ≡ rowOf (cells (now (t .entry))) (now (evidence .entry)) c ⌝ }
+{
+    bitset::row(evidence, c, bitset::words_for(view::size(t)))
+}
+
 // The boundary mod 2 of a row whose cells are live: every pair of a cell in the row and a face place counted.
-pub fn row_boundary(t: &[u16], evidence: &[u64], row: usize) -> [u64; bitset::FULL]
+pub fn row_boundary(t: &[u16], evidence: &[u64], c: usize) -> [u64; bitset::FULL]
     requires { ⌜ Frame (viewOf (now t)) ⌝ }
     requires { ⌜ length (now evidence) ≡ evidenceWords (cells (now t)) ⌝ }
-    requires { ⌜ row < cells (now t) .size ⌝ }
-    requires { ⌜ RowLive (cells (now t)) (now evidence) row ⌝ }
-    ensures { λ r. ⌜ SetIs r (boundary (cells (now (t .entry))) (rows (cells (now (t .entry))) (now (evidence .entry)) row)) ⌝ }
+    requires { ⌜ c < cells (now t) .size ⌝ }
+    requires { ⌜ RowLive (cells (now t)) (now evidence) c ⌝ }
+    ensures { λ r. ⌜ SetIs r (boundary (cells (now (t .entry))) (rows (cells (now (t .entry))) (now (evidence .entry)) c)) ⌝ }
 {
-    let width = bitset::words_for(view::size(t));
-    let at = row * width;
+    let words = row(t, evidence, c);
+    let width = words.len();
     let mut b = [0; bitset::FULL];
     let mut w = 0;
     while w < width {
-        add_word(t, w, evidence[at + w], &mut b);
+        add_word(t, w, words[w], &mut b);
         w += 1;
     }
     b

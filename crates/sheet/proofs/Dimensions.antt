@@ -8,15 +8,23 @@ use Prim.Native.Nat.{ℕ, zero, suc, max, _+_, _≤_, _<_}
 use native.Mathlib.Nat.{not-suc-le-zero, le-max-left, le-max-right, max-eq-left, max-eq-right, zero-max, suc-max-suc}
 use native.Mathlib.Numerals.{add-one}
 use native.Mathlib.Omega.{arith}
+use borrow.Author.Tests.{lt-ltb, le-ltb}
 use Rattle.counting.specs.Counting.{someHas, pick}
 use Rattle.counting.proofs.Cases.{below-or-not, true-or-false, not-true-false}
 use Rattle.counting.proofs.Counting.{someHas-at, someHas-each}
-use Rattle.table.specs.Kind.{top, faces}
+use Rattle.table.specs.Kind.{top}
 use Rattle.table.specs.Table.{cellsOf, dim, live}
 use Rattle.table.proofs.Records.{live-says, live-true}
 use Rattle.counting.proofs.Tests.{at-or-below}
 use Rattle.sheet.specs.Sheet.{largestBelow}
-use Rattle.sheet.specs.Sides.{levelsBelow}
+use Rattle.sheet.specs.Sides.{levelOf, levelsBelow}
+
+-- the level of a record that is free, and of one that is live
+level-free : (p : ℕ) → top < p → levelOf p ≡ 0
+level-free p h = rw (lt-ltb top p h)
+
+level-live : (p : ℕ) → p ≤ top → levelOf p ≡ p + 1
+level-live p h = rw (le-ltb top p h)
 
 module _ (t : List ℕ) where
   -- at the start, at a live cell, and at a number that is none
@@ -117,23 +125,27 @@ module _ (t : List ℕ) where
   levels-past : (m : ℕ) → live t m ≡ false → levelsBelow t (m + 1) ≡ levelsBelow t m
   levels-past m e = rw (add-one m) (levels-free m e)
 
-  -- one turn of the pass that finds them: l levels below cell m become l′
-  abbrev Turned : ℕ → ℕ → Type 0
-  Turned m l′ = (l′ ≡ levelsBelow t (m + 1)) × (l′ ≤ faces)
-
-  module _ (m l p l′ : ℕ) (h : m < cellsOf t) (e : l ≡ levelsBelow t m) (few : l ≤ faces) (d : p ≡ dim t m) where
+  -- one turn of the pass that finds them: l levels below cell m, of level q, become l′
+  module _ (m l p q l′ : ℕ) (h : m < cellsOf t) (e : l ≡ levelsBelow t m) (d : p ≡ dim t m) (lv : q ≡ levelOf p) where
     living : p ≤ top → live t m ≡ true
     living low = live-says t m (record { inside = h; low = omega arith })
 
-    pub turn-higher : p ≤ top → l ≤ p → l′ ≡ p + 1 → Turned m l′
-    turn-higher low up i = (omega (arith, levels-higher m (living low) (omega arith)), omega arith)
+    past : top < p → levelsBelow t (m + 1) ≡ levelsBelow t m
+    past free = levels-past m (not-true-false (live t m) (λ v. omega (arith, live-true t m v .low)))
 
-    pub turn-lower : p ≤ top → p < l → l′ ≡ l → Turned m l′
-    turn-lower low down i = (i ∙ e ∙ sym (levels-lower m (living low) (omega arith)), omega arith)
+    pub turn-higher : l < q → l′ ≡ q → l′ ≡ levelsBelow t (m + 1)
+    turn-higher up i =
+        ⊎-elim
+        (λ free. absurd (omega (arith, lv ∙ level-free p free)))
+        (λ low. let z : q ≡ p + 1 = lv ∙ level-live p low in omega (arith, levels-higher m (living low) (omega arith)))
+        (below-or-not top p)
 
-    pub turn-free : top < p → l′ ≡ l → Turned m l′
-    turn-free free i =
-        (i ∙ e ∙ sym (levels-past m (not-true-false (live t m) (λ v. omega (arith, live-true t m v .low)))), omega arith)
+    pub turn-lower : q ≤ l → l′ ≡ l → l′ ≡ levelsBelow t (m + 1)
+    turn-lower down i =
+        ⊎-elim
+        (λ free. i ∙ e ∙ sym (past free))
+        (λ low. let z : q ≡ p + 1 = lv ∙ level-live p low in i ∙ e ∙ sym (levels-lower m (living low) (omega arith)))
+        (below-or-not top p)
 
   pub levels-all : (l m n : ℕ) → n ≡ cellsOf t → m ≤ n → n ≤ m → l ≡ levelsBelow t m → l ≡ levelsBelow t (cellsOf t)
   levels-all l m n e h g i =

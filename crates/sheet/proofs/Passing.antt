@@ -1,57 +1,42 @@
 -- The test of each cell by its dimension and its sides is the sheet test.
 -- What carries it: the sides of an (n−1)-cell are its wings, and a cell has sides exactly where it is covered. Assumes nothing.
 use mathlib.Core.Path.{_≡_, refl, sym, ap, _∙_}
-use mathlib.Core.Bool.{Bool, true, false, _&&_, _||_, not, false≢true}
+use mathlib.Core.Bool.{Bool, true, false, _||_, not, false≢true}
 use mathlib.Core.List.{List}
 use mathlib.Core.Logic.{_⊎_, inl, inr, ⊎-elim}
 use Prim.Native.Nat.{ℕ, suc, _+_, _≤_, _<_}
 use native.Mathlib.Numerals.{add-one}
 use native.Mathlib.Omega.{arith}
-use borrow.Author.Tests.{eq-eqb, ne-eqb, le-leb, eqb-true, eqb-false, leb-true, lt-ltb, le-ltb, not-true, not-false}
+use borrow.Author.Tests.{eq-eqb, ne-eqb, ltb-true, lt-ltb, le-ltb, not-true, not-false}
 use lib.ListN.{getD}
-use lib.Dec.{eqb, leb, ltb}
+use lib.Dec.{eqb, ltb}
 use Rattle.counting.specs.Counting.{someHas, pick, all}
 use Rattle.table.specs.Kind.{top}
 use Rattle.table.specs.Table.{cellsOf, dim, Live, live, Valid}
 use Rattle.counting.proofs.Tests.{or-else, all-true, all-says}
-use Rattle.counting.proofs.Cases.{below-or-not, and-both, not-true-false}
-use Rattle.sheet.specs.Sheet.{largestDim, isSheet}
-use Rattle.sheet.specs.Sides.{levelsBelow, sidesBelow, Counted, passes, allPass}
+use Rattle.counting.proofs.Cases.{below-or-not, same-or-not, not-true-false}
+use Rattle.sheet.specs.Sheet.{wings, largestDim, isSheet}
+use Rattle.sheet.specs.Sides.{levelsBelow, Counted, Crowded, passes, allPass}
 use Rattle.sheet.proofs.Dimensions.{levels-are}
-use Rattle.sheet.proofs.Sheets.{Tests, sheet-tests, tests-sheet, or-not, cases-or}
+use Rattle.sheet.proofs.Sheets.{Tests, sheet-tests, tests-sheet, cases-or}
 use Rattle.sheet.proofs.Wings.{wings-are-sides, covered-sides, sides-covered}
 
 -- What the test of one cell says.
 abbrev Passing : ℕ → ℕ → ℕ → Type 0
-Passing p l k = (p + 1 ≡ l) ⊎ ((1 ≤ k) × (p + 2 ≡ l → k ≤ 2))
-
-pass-cases : (a b z d e : Bool) → (a || (b || (not z && (not d || e)))) ≡ true → a ≡ false → (b ≡ true) ⊎ ((z ≡ false) × (d ≡ true → e ≡ true))
-pass-cases true b z d e h i = absurd (false≢true (sym i))
-pass-cases false true z d e h i = inl refl
-pass-cases false false true d e h i = absurd (false≢true h)
-pass-cases false false false d e h i = inr (refl, λ q. or-else (not d) e h (ap not q))
+Passing p l k = (p + 1 ≡ l) ⊎ (1 ≤ k)
 
 module _ (p l k : ℕ) where
   passes-true : passes p l k ≡ true → p ≤ top → Passing p l k
   passes-true e h =
-      ⊎-elim
-      (λ i. inl (eqb-true (p + 1) l i))
-      (λ w. let z : (k ≡ 0 → ⊥) = eqb-false k 0 (w .0) in inr (omega arith, λ i. leb-true k 2 (w .1 (eq-eqb (p + 2) l i))))
-      (pass-cases (ltb top p) (eqb (p + 1) l) (eqb k 0) (eqb (p + 2) l) (leb k 2) e (le-ltb top p h))
-
-  later-says : Passing p l k → (eqb (p + 1) l || (not (eqb k 0) && (not (eqb (p + 2) l) || leb k 2))) ≡ true
-  later-says h =
-      cases-or (eqb (p + 1) l) (not (eqb k 0) && (not (eqb (p + 2) l) || leb k 2))
-      (⊎-elim
-      (λ i. inl (eq-eqb (p + 1) l i))
-      (λ w. inr (and-both (not (eqb k 0)) (not (eqb (p + 2) l) || leb k 2)
-      (ap not (ne-eqb k 0 (λ z. omega (arith, w .0))))
-      (or-not (eqb (p + 2) l) (leb k 2) (λ i. le-leb k 2 (w .1 (eqb-true (p + 2) l i))))))
-      h)
+      let later : (eqb (p + 1) l || ltb 0 k) ≡ true = or-else (ltb top p) (eqb (p + 1) l || ltb 0 k) e (le-ltb top p h) in
+      ⊎-elim inl (λ i. inr (ltb-true 0 k (or-else (eqb (p + 1) l) (ltb 0 k) later (ne-eqb (p + 1) l i)))) (same-or-not (p + 1) l)
 
   passes-says : (p ≤ top → Passing p l k) → passes p l k ≡ true
   passes-says h =
-      ⊎-elim (λ i. rw (lt-ltb top p i)) (λ i. rw (le-ltb top p i) (later-says (h i))) (below-or-not top p)
+      ⊎-elim
+      (λ i. rw (lt-ltb top p i))
+      (λ i. rw (le-ltb top p i) (cases-or (eqb (p + 1) l) (ltb 0 k) (⊎-elim (λ q. inl (eq-eqb (p + 1) l q)) (λ q. inr (lt-ltb 0 k q)) (h i))))
+      (below-or-not top p)
 
 same-truth : (a b : Bool) → (a ≡ true → b ≡ true) → (b ≡ true → a ≡ true) → a ≡ b
 same-truth true b f g = sym (f refl)
@@ -59,37 +44,36 @@ same-truth false true f g = g refl
 same-truth false false f g = refl
 
 -- Counters of a whole table, and its levels.
-module _ (t k : List ℕ) (l : ℕ) (valid : Valid t) (counted : Counted t k (cellsOf t)) (living : someHas (live t) (cellsOf t) ≡ true) (levels : l ≡ suc (largestDim t)) where
+module _ (t k : List ℕ) (l : ℕ) (valid : Valid t) (counted : Counted t k l (cellsOf t)) (living : someHas (live t) (cellsOf t) ≡ true) (levels : l ≡ suc (largestDim t)) where
   abbrev passesAt : ℕ → Bool
   passesAt c = passes (dim t c) l (getD k c 0)
 
+  -- no (n−1)-cell has a counter above 2, which is the number of its wings
+  two-wings : (u : ℕ) → Live t u → suc (dim t u) ≡ largestDim t → wings t (largestDim t) u ≤ 2
+  two-wings u v i =
+      let told = counted .each u (v .inside) in
+      omega (arith, told .few, told .wings (omega (arith, levels)), wings-are-sides t valid (largestDim t) u (sym i))
+
   passing-tests : ((c : ℕ) → c < cellsOf t → passesAt c ≡ true) → Tests t
   passing-tests each =
-      let at : ((c : ℕ) → Live t c → Passing (dim t c) l (getD k c 0)) = λ c v. passes-true (dim t c) l (getD k c 0) (each c (v .inside)) (v .low) in
       record {
         living = living;
         over = λ c v.
             ⊎-elim
             (λ i. inl (omega (arith, levels)))
-            (λ w. inr (sides-covered t c (omega (arith, w .0, counted .each c (v .inside)))))
-            (at c v);
-        pairs = λ u v i.
-            ⊎-elim
-            (λ q. absurd (omega (arith, levels)))
-            (λ w. omega (arith, w .1 (omega (arith, levels)), counted .each u (v .inside), wings-are-sides t valid (largestDim t) u (sym i)))
-            (at u v);
+            (λ i. inr (sides-covered t c (omega (arith, counted .each c (v .inside) .most))))
+            (passes-true (dim t c) l (getD k c 0) (each c (v .inside)) (v .low));
+        pairs = two-wings;
       }
 
   tests-passing : Tests t → (c : ℕ) → c < cellsOf t → passesAt c ≡ true
   tests-passing s c h =
       passes-says (dim t c) l (getD k c 0)
       (λ low.
-      let v : Live t c = record { inside = h; low = low } in
-      let k-is : getD k c 0 ≡ sidesBelow t c (cellsOf t) = counted .each c h in
       ⊎-elim
       (λ i. inl (omega (arith, levels)))
-      (λ b. inr (omega (arith, covered-sides t c b), λ q. omega (arith, s .pairs c v (omega (arith, levels)), wings-are-sides t valid (largestDim t) c (omega (arith, levels)))))
-      (s .over c v))
+      (λ b. inr (counted .each c h .some (covered-sides t c b)))
+      (s .over c (record { inside = h; low = low })))
 
   passes-is-sheet : allPass t l k ≡ isSheet t
   unfolding allPass
@@ -113,11 +97,23 @@ no-levels-no t l e z =
     let b = no-level (someHas (live t) (cellsOf t)) (largestDim t) (sym (levels-are t (cellsOf t)) ∙ sym e ∙ z) in
     not-true-false (isSheet t) (λ i. false≢true (sym b ∙ sheet-tests t i .living))
 
-pub sheet-by-counters : (t k : List ℕ) (l : ℕ) → Valid t → Counted t k (cellsOf t) → l ≡ levelsBelow t (cellsOf t) → (l ≡ 0 → ⊥) → allPass t l k ≡ isSheet t
+-- the levels of a table that has one
+levels-here : (t : List ℕ) (l : ℕ) → l ≡ levelsBelow t (cellsOf t) → (l ≡ 0 → ⊥) → (someHas (live t) (cellsOf t) ≡ true) × (l ≡ suc (largestDim t))
 unfolding largestDim
-sheet-by-counters t k l v h e z =
+levels-here t l e z =
     let b = some-level (someHas (live t) (cellsOf t)) (largestDim t) (λ q. z (e ∙ levels-are t (cellsOf t) ∙ q)) in
-    passes-is-sheet t k l v h (b .0) (e ∙ levels-are t (cellsOf t) ∙ b .1)
+    (b .0, e ∙ levels-are t (cellsOf t) ∙ b .1)
+
+pub sheet-by-counters : (t k : List ℕ) (l : ℕ) → Valid t → Counted t k l (cellsOf t) → l ≡ levelsBelow t (cellsOf t) → (l ≡ 0 → ⊥) → allPass t l k ≡ isSheet t
+sheet-by-counters t k l v h e z = let b = levels-here t l e z in passes-is-sheet t k l v h (b .0) (b .1)
+
+-- a third wing says no
+pub crowded-no : (t : List ℕ) (l : ℕ) → Valid t → l ≡ levelsBelow t (cellsOf t) → (l ≡ 0 → ⊥) → Crowded t l → isSheet t ≡ false
+crowded-no t l v e z w =
+    let b = levels-here t l e z in
+    let i : suc (dim t (w .cell)) ≡ largestDim t = omega (arith, b .1, w .level) in
+    not-true-false (isSheet t)
+    (λ q. omega (arith, sheet-tests t q .pairs (w .cell) (w .living) i, wings-are-sides t v (largestDim t) (w .cell) (sym i), w .three))
 
 -- the pass over the cells: at the start, one turn more, the turn at which it stops, and the end
 module _ (t k : List ℕ) (l : ℕ) where

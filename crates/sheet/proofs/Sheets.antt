@@ -25,7 +25,7 @@ pub record Tests (t : List ℕ) : Type 0 where
   pub over : (c : ℕ) → Live t c → (dim t c ≡ largestDim t) ⊎ (covered t c ≡ true)
   pub pairs : (u : ℕ) → Live t u → suc (dim t u) ≡ largestDim t → wings t (largestDim t) u ≤ 2
 
-pub or-not : (a b : Bool) → (a ≡ true → b ≡ true) → (not a || b) ≡ true
+or-not : (a b : Bool) → (a ≡ true → b ≡ true) → (not a || b) ≡ true
 or-not true b h = h refl
 or-not false b h = refl
 

@@ -1,16 +1,15 @@
--- Laws of a sum of numbers: equal summands, smaller ones, a bound of each, one summand, and a count as a sum.
+-- Laws of a sum of numbers: equal summands, smaller ones, more of them, one summand, and a count as a sum.
 -- What carries them: recursion on the number of summands. Assumes nothing.
-use mathlib.Core.Path.{_≡_, refl}
+use mathlib.Core.Path.{_≡_, refl, sym, subst}
 use mathlib.Core.Bool.{Bool}
 use mathlib.Core.Logic.{⊎-elim}
-use Prim.Native.Nat.{ℕ, zero, suc, _+_, _*_, _≤_, _<_}
+use Prim.Native.Nat.{ℕ, zero, suc, _+_, _≤_, _<_}
 use native.Mathlib.Nat.{not-suc-le-zero}
 use native.Mathlib.Numerals.{add-one}
 use native.Mathlib.Omega.{arith}
 use Rattle.counting.specs.Counting.{howMany, pick}
 use Rattle.counting.proofs.Cases.{below-or-not}
 use Rattle.counting.proofs.Tests.{at-or-below}
-use Rattle.table.specs.Kind.{faces}
 use Rattle.sheet.specs.Sheet.{total}
 
 pub total-zero : (f : ℕ → ℕ) → total f 0 ≡ 0
@@ -32,11 +31,14 @@ unfolding total
 total-alike f g zero h = refl
 total-alike f g (suc m) h = omega (arith, total-alike f g m (λ k l. h k (omega arith)), h m (omega arith))
 
--- at most as many as a record has face words, for each
-pub total-most : (f : ℕ → ℕ) (m : ℕ) → ((k : ℕ) → f k ≤ faces) → total f m ≤ m * faces
+-- more summands
+pub total-mono : (f : ℕ → ℕ) (m n : ℕ) → m ≤ n → total f m ≤ total f n
 unfolding total
-total-most f zero h = omega arith
-total-most f (suc m) h = omega (arith, total-most f m h, h m)
+total-mono f m zero h = subst (λ k. total f k ≤ 0) (sym (none h)) (omega arith)
+  where
+    none : m ≤ 0 → m ≡ 0
+    none l = omega arith
+total-mono f m (suc n) h = at-or-below (λ k. total f k ≤ total f n + f n) m (suc n) (omega arith) (omega arith) (λ l. omega (arith, total-mono f m n (omega arith)))
 
 -- a summand is no larger than the sum, and where the sum is not 0 a summand is not 0
 pub total-at : (f : ℕ → ℕ) (m k : ℕ) → k < m → f k ≤ total f m

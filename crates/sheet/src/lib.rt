@@ -1,11 +1,11 @@
-// The sheet test: whether a part is a sheet that a mesher can run on. One pass counts for each cell at how many places it is named, and
-// finds the largest dimension; a second tests every cell by these two numbers. In a valid table the cells over an (n−1)-cell are
-// n-cells, so one counter for each cell serves both conditions.
+// The sheet test: whether a part is a sheet that a mesher can run on. One pass finds the largest dimension n; a second counts, for each
+// (n−1)-cell, at how many places it is named, leaves at the third, and marks every other cell that is named; the last looks for a cell
+// that is neither an n-cell nor named. In a valid table the cells over an (n−1)-cell are n-cells, so a place of one is a wing.
 ghost use mathlib.Core.Path.{_≡_};
 ghost use Prim.Native.Nat.{_+_, _<_};
-ghost use Rattle.table.specs.Table.{cellsOf, Valid};
+ghost use Rattle.table.specs.Table.{cellsOf, dim as dimOf, Valid};
 ghost use Rattle.sheet.specs.Sheet.{isSheet, sheetAnswer};
-ghost use Rattle.sheet.specs.Sides.{levelsBelow, Counted, passes as passesTest, allPass};
+ghost use Rattle.sheet.specs.Sides.{levelOf, levelsBelow, Counted, CountEnds, passes as passesTest, allPass};
 use calls::Refusal;
 use calls::Verdict;
 use table::Table;
@@ -17,39 +17,87 @@ pub enum Judged {
     NotJudged(Refusal),
 }
 
-// Adds cell c to the counters: one at each place, for the cell that it names.
-fn count_cell(t: &[u16], c: usize, sides: &mut [u16])
-    requires { ⌜ (Valid (now t)) × (c < cellsOf (now t)) × (Counted (now t) (now sides) c) ⌝ }
-    ensures { λ _. ⌜ Counted (now (t .entry)) (now (sides .exit)) (c + 1) ⌝ }
+// The level of a record with this word 0: one more than the dimension, or 0 for a free record.
+fn level(p: u16) -> u16
+    ensures { λ r. ⌜ r ≡ levelOf p ⌝ }
 {
-    let used = Table::used(Table::dim(t, c));
-    for j in 0..used {
-        let u = Table::face(t, c, j) as usize;
-        sides[u] += 1;
+    if p <= Table::TOP {
+        return p + 1;
     }
+    0
 }
 
-// One pass over the cells: counts for each cell at how many places it is named, and answers the levels of the table, one more than the
-// largest live dimension, or 0 where no cell is live.
-fn count_sides(t: &[u16], sides: &mut [u16]) -> u16
-    requires { ⌜ (Valid (now t)) × (Counted (now t) (now sides) 0) ⌝ }
-    ensures { λ r. ⌜ (r ≡ levelsBelow (now (t .entry)) (cellsOf (now (t .entry)))) × (Counted (now (t .entry)) (now (sides .exit)) (cellsOf (now (t .entry)))) ⌝ }
+// The levels of the table: one more than the largest live dimension, or 0 where no cell is live.
+fn levels(t: &[u16]) -> u16
+    ensures { λ r. ⌜ r ≡ levelsBelow (now (t .entry)) (cellsOf (now (t .entry))) ⌝ }
 {
     let n = Table::room(t);
     let mut l: u16 = 0;
     for c in 0..n {
-        count_cell(t, c, sides);
-        let p = Table::dim(t, c);
-        if p <= Table::TOP {
-            if p >= l {
-                l = p + 1;
-            }
+        let q = level(Table::dim(t, c));
+        if q > l {
+            l = q;
         }
     }
     l
 }
 
-// Whether a cell with this word 0 and this many sides passes in a table of l levels.
+// Counts the places of c, a cell of the largest dimension: one for the cell that each names. Leaves with no at a third place of one
+// cell. Here and in the next function the levels l are named for the contract alone.
+fn count_wings(t: &[u16], c: usize, l: u16, sides: &mut [u16]) -> bool
+    requires { ⌜ (Valid (now t)) × (c < cellsOf (now t)) × (Counted (now t) (now sides) l c) × (dimOf (now t) c + 1 ≡ l) ⌝ }
+    ensures { λ r. ⌜ CountEnds (now (t .entry)) (now (sides .exit)) l (c + 1) r ⌝ }
+{
+    let used = Table::used(Table::dim(t, c));
+    for j in 0..used {
+        let u = Table::face(t, c, j) as usize;
+        if sides[u] >= 2 {
+            return false;
+        }
+        sides[u] += 1;
+    }
+    true
+}
+
+// Marks every cell that c, a cell of another dimension, names: these are not counted, so no counter is read here.
+fn mark_faces(t: &[u16], c: usize, l: u16, sides: &mut [u16])
+    requires { ⌜ (Valid (now t)) × (c < cellsOf (now t)) × (Counted (now t) (now sides) l c) × (dimOf (now t) c + 1 ≡ l → ⊥) ⌝ }
+    ensures { λ _. ⌜ Counted (now (t .entry)) (now (sides .exit)) l (c + 1) ⌝ }
+{
+    let used = Table::used(Table::dim(t, c));
+    for j in 0..used {
+        let f = Table::face(t, c, j) as usize;
+        sides[f] = 1;
+    }
+}
+
+// Takes cell c into the counters of a table of l levels; no at a third wing of one cell.
+fn count_cell(t: &[u16], c: usize, l: u16, sides: &mut [u16]) -> bool
+    requires { ⌜ (Valid (now t)) × (c < cellsOf (now t)) × (Counted (now t) (now sides) l c) ⌝ }
+    ensures { λ r. ⌜ CountEnds (now (t .entry)) (now (sides .exit)) l (c + 1) r ⌝ }
+{
+    if Table::dim(t, c) as usize + 1 == l as usize {
+        return count_wings(t, c, l, sides);
+    }
+    mark_faces(t, c, l, sides);
+    true
+}
+
+// Takes every cell into the counters; no where an (n−1)-cell has a third wing.
+fn count_sides(t: &[u16], l: u16, sides: &mut [u16]) -> bool
+    requires { ⌜ (Valid (now t)) × (Counted (now t) (now sides) l 0) ⌝ }
+    ensures { λ r. ⌜ CountEnds (now (t .entry)) (now (sides .exit)) l (cellsOf (now (t .entry))) r ⌝ }
+{
+    let n = Table::room(t);
+    for c in 0..n {
+        if !count_cell(t, c, l, sides) {
+            return false;
+        }
+    }
+    true
+}
+
+// Whether a cell with this word 0 and this many sides passes in a table of l levels: it is free, of the largest dimension, or named.
 fn passes(p: u16, l: u16, sides: u16) -> bool
     ensures { λ r. ⌜ r ≡ passesTest p l sides ⌝ }
 {
@@ -59,18 +107,12 @@ fn passes(p: u16, l: u16, sides: u16) -> bool
     if p + 1 == l {
         return true;
     }
-    if sides == 0 {
-        return false;
-    }
-    if p + 2 == l {
-        return sides <= 2;
-    }
-    true
+    sides > 0
 }
 
 // Whether every cell passes.
 fn all_pass(t: &[u16], l: u16, sides: &[u16]) -> bool
-    requires { ⌜ Counted (now t) (now sides) (cellsOf (now t)) ⌝ }
+    requires { ⌜ Counted (now t) (now sides) l (cellsOf (now t)) ⌝ }
     ensures { λ r. ⌜ r ≡ allPass (now (t .entry)) l (now (sides .entry)) ⌝ }
 {
     let n = Table::room(t);
@@ -87,9 +129,12 @@ fn is_sheet(t: &[u16]) -> bool
     requires { ⌜ Valid (now t) ⌝ }
     ensures { λ r. ⌜ r ≡ isSheet (now (t .entry)) ⌝ }
 {
-    let mut sides: [u16; Table::CAPACITY] = [0; Table::CAPACITY];
-    let l = count_sides(t, &mut sides);
+    let l = levels(t);
     if l == 0 {
+        return false;
+    }
+    let mut sides: [u16; Table::CAPACITY] = [0; Table::CAPACITY];
+    if !count_sides(t, l, &mut sides) {
         return false;
     }
     all_pass(t, l, &sides)

@@ -18,7 +18,7 @@ module _ (n : ℕ) where
   long : length filled ≡ n * width
   long = length-replicate (n * width) freeMark
 
-  pub none-live : (c : ℕ) → Live filled c → ⊥
+  none-live : (c : ℕ) → Live filled c → ⊥
   none-live c v = omega (arith, one-dim (n * width) freeMark c (v .inside), v .low)
 
   pub empty-is-valid : 1 ≤ n → n ≤ capacity → Valid (replicate (n * width) freeMark)

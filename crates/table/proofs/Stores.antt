@@ -61,7 +61,7 @@ module _ (t : List ℕ) (c j x : ℕ) (inside : c < cellsOf t) (place : j < face
       }
 
 -- a record is what was written last
-pub stored-again : {c : ℕ} {r s : Record} {t u v : List ℕ} → Stored c r t u → Stored c s u v → Stored c s t v
+stored-again : {c : ℕ} {r s : Record} {t u v : List ℕ} → Stored c r t u → Stored c s u v → Stored c s t v
 stored-again a b =
     record { size = b .size ∙ a .size; here = b .here; else = λ d ne. alike-then (b .else d ne) (a .else d ne) }
 

@@ -2,21 +2,20 @@
 -- and is what the single merges leave.
 -- What carries it: the grounds are read one after the other. Assumes nothing.
 use mathlib.Core.Path.{_≡_, refl, ap, sym, subst, _∙_}
-use mathlib.Core.Bool.{true, false, _&&_}
+use mathlib.Core.Bool.{true, _&&_}
 use mathlib.Core.List.{List}
 use Prim.Native.Nat.{ℕ, min}
 use borrow.Author.Tests.{eq-eqb, ne-eqb, eqb-true, eqb-false, not-false}
 use lib.Dec.{eqb}
 use Rattle.counting.proofs.Cases.{and-left, and-right}
 use Rattle.table.specs.Table.{dim, live, Valid, sized}
-use Rattle.audit.specs.Audit.{sound, auditGrounds}
+use Rattle.audit.specs.Audit.{sound}
 use Rattle.calls.specs.Calls.{verdict, named, leaves, Ends}
 use Rattle.calls.specs.declared.Refusal.{Refusal}
-use Rattle.calls.specs.declared.Refusal.the-variants.{NotLive, SameCell, DimensionsDiffer}
 use Rattle.calls.specs.declared.Verdict.{Verdict}
 use Rattle.calls.specs.declared.Verdict.the-variants.{Accepted, Refused}
 use Rattle.calls.specs.declared.Named.the-variants.{Cell, NoCell}
-use Rattle.calls.proofs.Grounds.{accepted-none-applies, accepted-first, refused-first}
+use Rattle.calls.proofs.Grounds.{accepted-none-applies}
 use Rattle.table.proofs.Records.{live-true, live-says}
 use Rattle.audit.proofs.Valid.{sound-is-valid, valid-is-sound, valid-is-sized}
 use Rattle.merge.specs.Rename.{renamed}
@@ -24,7 +23,7 @@ use Rattle.weld.specs.Weld.{IsWeld}
 use Rattle.weld.specs.Joins.{weldMap}
 use Rattle.weld.specs.Maps.{Weldable}
 use Rattle.weld.specs.Merges.{Merges, weldMerges}
-use Rattle.weld.specs.Call.{pairGrounds, weldGrounds, weldVerdict, welded, weldAnswer, weldLeaves}
+use Rattle.weld.specs.Call.{weldGrounds, weldVerdict, welded, weldAnswer, weldLeaves}
 use Rattle.weld.proofs.Welds.{weldMap-is-weld, weld-keeps-valid, one-welded-table}
 use Rattle.weld.proofs.Single.{weld-by-merges}
 
@@ -52,31 +51,10 @@ module _ (t : List ℕ) (a b : ℕ) where
       let level = eq-eqb (dim t a) (dim t b) (m .same-dim) in
       simp (valid-is-sized t (m .valid), valid-is-sound t (m .valid), lives, lives-too, apart, level)
 
-  -- what the two cells say, way by way out of the code
-  pub first-not-live : live t a ≡ false → Refused NotLive ≡ verdict (pairGrounds t a b)
-  first-not-live e = simp e
-
-  pub second-not-live : live t a ≡ true → live t b ≡ false → Refused NotLive ≡ verdict (pairGrounds t a b)
-  second-not-live e f = simp (e, f)
-
-  module _ (e : live t a ≡ true) (f : live t b ≡ true) where
-    pub one-cell-twice : a ≡ b → Refused SameCell ≡ verdict (pairGrounds t a b)
-    one-cell-twice s = simp (e, f, eq-eqb a b s)
-
-    pub dimensions-differ : (a ≡ b → ⊥) → (dim t a ≡ dim t b → ⊥) → Refused DimensionsDiffer ≡ verdict (pairGrounds t a b)
-    dimensions-differ s d = simp (e, f, ne-eqb a b s, ne-eqb (dim t a) (dim t b) d)
-
-    pub nothing-against : (a ≡ b → ⊥) → dim t a ≡ dim t b → Accepted ≡ verdict (pairGrounds t a b)
-    nothing-against s d = simp (e, f, ne-eqb a b s, eq-eqb (dim t a) (dim t b) d)
-
-  -- where the audit refuses its refusal stands, else the pair decides
-  pub invalid-refuses : (r : Refusal) → verdict (auditGrounds t) ≡ Refused r → weldVerdict t a b ≡ Refused r
+  -- the two cells are asked as for a merge
+  pub verdict-is : weldVerdict t a b ≡ verdict (weldGrounds t a b)
   unfolding weldVerdict
-  invalid-refuses = refused-first (auditGrounds t) (pairGrounds t a b)
-
-  pub valid-then-pair : verdict (auditGrounds t) ≡ Accepted → weldVerdict t a b ≡ verdict (pairGrounds t a b)
-  unfolding weldVerdict
-  valid-then-pair = accepted-first (auditGrounds t) (pairGrounds t a b)
+  verdict-is = refl
 
   -- the ways out of the call
   pub ends-refused : (r : Refusal) → weldVerdict t a b ≡ Refused r → Ends (weldAnswer t a b) (weldLeaves t a b) (NoCell r) t

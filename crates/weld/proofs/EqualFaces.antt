@@ -90,7 +90,7 @@ module _ (t : List ℕ) (a b : ℕ) (m : Mergeable t a b) where
 
 -- where a merge is accepted
 module _ (t : List ℕ) (a b : ℕ) (e : mergeVerdict t a b ≡ Accepted) where
-  pub merge-accepted-weld-accepted : weldVerdict t a b ≡ Accepted
+  merge-accepted-weld-accepted : weldVerdict t a b ≡ Accepted
   merge-accepted-weld-accepted =
       let m = merge-accepted t a b e in
       weldable-accepted t a b

@@ -15,7 +15,7 @@ use Rattle.weld.specs.Maps.{Tied}
 
 module _ (κ : ℕ → ℕ) (x y : ℕ) where
   -- what holds of the old image and of those of x and y holds of the new one
-  pub by-way :
+  by-way :
       (P : ℕ → Type 0) (c : ℕ) → P (κ c) → (κ c ≡ κ y → P (κ x)) → (κ c ≡ κ x → P (κ y)) → P (joined κ x y c)
   unfolding joined
   by-way P c old first second =
@@ -32,11 +32,11 @@ module _ (κ : ℕ → ℕ) (x y : ℕ) where
   unfolding joined
   joined-coarser c d e = ap (identify (κ x) (κ y)) e
 
-  pub joined-down : (c : ℕ) → κ c ≤ c → joined κ x y c ≤ c
+  joined-down : (c : ℕ) → κ c ≤ c → joined κ x y c ≤ c
   unfolding joined
   joined-down c h = omega (arith, identify-down (κ x) (κ y) (κ c))
 
-  pub joined-once : ((c : ℕ) → κ (κ c) ≡ κ c) → (c : ℕ) → joined κ x y (joined κ x y c) ≡ joined κ x y c
+  joined-once : ((c : ℕ) → κ (κ c) ≡ κ c) → (c : ℕ) → joined κ x y (joined κ x y c) ≡ joined κ x y c
   unfolding joined
   joined-once once c =
       ap (identify (κ x) (κ y)) (by-way (λ z. κ z ≡ z) c (once c) (λ e. once x) (λ e. once y))

@@ -107,14 +107,14 @@ module _ (t : List ℕ) (a b q : ℕ) where
 
   -- the cells below n
   module _ (valid : Valid t) (κ : ℕ → ℕ) (s : Sound t a b κ) where
-    pub cells-stage : (n : ℕ) → Stage t a b q κ (joinCells t (suc q) n κ)
+    cells-stage : (n : ℕ) → Stage t a b q κ (joinCells t (suc q) n κ)
     unfolding joinCells
     cells-stage zero = stage-nothing κ s
     cells-stage (suc n) =
         stage-both κ (joinCells t (suc q) n κ) (joinCell t (suc q) n (joinCells t (suc q) n κ)) (cells-stage n)
         (cell-stage valid (joinCells t (suc q) n κ) (cells-stage n .sound) n)
 
-    pub cells-join :
+    cells-join :
         (n c j : ℕ) → c < n → Live t c → dim t c ≡ suc q → j < used (dim t c) →
         joinCells t (suc q) n κ (face t c j) ≡ joinCells t (suc q) n κ (face t (κ c) j)
     unfolding joinCells
@@ -134,7 +134,7 @@ module _ (t : List ℕ) (a b q : ℕ) where
         at z = joinCell t (suc q) z (joinCells t (suc q) n κ)
 
     -- a level done: what was complete above q + 1 is complete above q
-    pub level-complete : Complete t κ (suc q) → Complete t (joinCells t (suc q) (cellsOf t) κ) q
+    level-complete : Complete t κ (suc q) → Complete t (joinCells t (suc q) (cellsOf t) κ) q
     level-complete done c j l h k =
         let g : Stage t a b q κ (joinCells t (suc q) (cellsOf t) κ) = cells-stage (cellsOf t) in
         ⊎-elim

@@ -247,7 +247,7 @@ module _ (t : List ℕ) (κ : ℕ → ℕ) (valid : Valid t) (k : Carries κ t)
       (renamed-alike (part (q * capacity + cellsOf t)) (part (suc q * capacity)) t (next-dimension q))
       (merges-in q (cellsOf t) (omega arith)))
 
-  pub merges-give-renamed : Merges t (weldMerges t κ) (renamed κ t)
+  merges-give-renamed : Merges t (weldMerges t κ) (renamed κ t)
   merges-give-renamed =
       subst (λ u. Merges t (weldMerges t κ) u)
       (renamed-alike (part (dimensions * capacity)) κ t (λ x.

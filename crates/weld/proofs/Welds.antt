@@ -26,7 +26,7 @@ pub live-or-not : (t : List ℕ) (c : ℕ) → Live t c ⊎ (Live t c → ⊥)
 live-or-not t c =
     ⊎-elim (λ e. inl (live-true t c e)) (λ e. inr (λ l. false≢true (sym e ∙ live-says t c l))) (true-or-false (live t c))
 
-pub mark-not-live : (t : List ℕ) → Valid t → Live t freeMark → ⊥
+mark-not-live : (t : List ℕ) → Valid t → Live t freeMark → ⊥
 mark-not-live t v l = omega (arith, l .inside, v .sized .room)
 
 -- The map made level by level.

@@ -1,26 +1,16 @@
 -- What the weld answers and leaves. Its map is made level by level in Joins.antt; proofs/ shows that it is the one map of Weld.antt.
 -- A reader must believe these definitions; nothing here is proved.
-use mathlib.Core.Bool.{_&&_, not}
-use mathlib.Core.List.{List, [], _∷_}
+use mathlib.Core.List.{List}
 use Prim.Native.Nat.{ℕ, min}
-use lib.Dec.{eqb}
-use Rattle.table.specs.Table.{dim, live}
 use Rattle.audit.specs.Audit.{grounds}
 use Rattle.calls.specs.Calls.{Ground, verdict, named, leaves}
-use Rattle.calls.specs.declared.Refusal.the-variants.{NotLive, SameCell, DimensionsDiffer}
 use Rattle.calls.specs.declared.Verdict.{Verdict}
 use Rattle.calls.specs.declared.Named.{Named}
 use Rattle.merge.specs.Rename.{renamed}
+use Rattle.merge.specs.Merge.{pairGrounds}
 use Rattle.weld.specs.Joins.{weldMap}
 
--- the merge's grounds that speak of the two cells, but for different faces, which a weld joins
-abbrev pub pairGrounds : List ℕ → ℕ → ℕ → List Ground
-pairGrounds t a b =
-    record { refusal = NotLive; applies = not (live t a && live t b) }
-    ∷ record { refusal = SameCell; applies = eqb a b }
-    ∷ record { refusal = DimensionsDiffer; applies = not (eqb (dim t a) (dim t b)) }
-    ∷ []
-
+-- the grounds of a merge, but for different faces, which a weld joins
 abbrev pub weldGrounds : List ℕ → ℕ → ℕ → List Ground
 weldGrounds t a b = grounds t (pairGrounds t a b)
 

@@ -11,9 +11,8 @@ ghost use Rattle.merge.specs.Rename.{renamed};
 ghost use Rattle.merge.specs.Writing.{sent as sentTo};
 ghost use Rattle.weld.specs.Joins.{joined, joinFaces, joinCell, joinLevel, joinLevels, weldMap};
 ghost use Rattle.weld.specs.Maps.{heldBy, Maps, Weldable, Ready, Becomes, Sent, Renamable, renamedRecord};
-ghost use Rattle.weld.specs.Call.{pairGrounds, weldVerdict, weldAnswer, weldLeaves};
+ghost use Rattle.weld.specs.Call.{weldAnswer, weldLeaves};
 use calls::Named;
-use calls::Refusal;
 use calls::Verdict;
 use table::Table;
 
@@ -212,42 +211,12 @@ fn glue(t: &mut [u16], a: usize, b: usize)
     glue_on(t, &mut k, a, b);
 }
 
-// What the two cells say to their weld, in a table that is valid: refused with 3 to 5, in that order.
-fn pair_verdict(t: &[u16], a: u16, b: u16) -> Verdict
-    ensures { λ r. ⌜ r ≡ verdict (pairGrounds (now (t .entry)) a b) ⌝ }
-{
-    if !Table::live(t, a as usize) {
-        return Verdict::Refused(Refusal::NotLive);
-    }
-    if !Table::live(t, b as usize) {
-        return Verdict::Refused(Refusal::NotLive);
-    }
-    if a == b {
-        return Verdict::Refused(Refusal::SameCell);
-    }
-    if Table::dim(t, a as usize) != Table::dim(t, b as usize) {
-        return Verdict::Refused(Refusal::DimensionsDiffer);
-    }
-    Verdict::Accepted
-}
-
-// What a weld of a and b is answered: the audit's refusals 1 and 2 first, then those of the pair.
-fn verdict_of(t: &[u16], a: u16, b: u16) -> Verdict
-    ensures { λ r. ⌜ r ≡ weldVerdict (now (t .entry)) a b ⌝ }
-{
-    let found = audit::audit(t);
-    match found {
-        Verdict::Accepted => pair_verdict(t, a, b),
-        Verdict::Refused(r) => Verdict::Refused(r),
-    }
-}
-
 // Joins two different live cells of one dimension, their faces place by place, and so on down; each class of joined cells becomes its
 // smallest number, and the answer is the pair's. Refused with 1 to 5, in that order; then no word changes.
 pub fn weld(t: &mut [u16], a: u16, b: u16) -> Named
     ensures { λ r. ⌜ Ends (weldAnswer (now (t .entry)) a b) (weldLeaves (now (t .entry)) a b) r (now (t .exit)) ⌝ }
 {
-    let found = verdict_of(t, a, b);
+    let found = merge::joinable(t, a, b);
     match found {
         Verdict::Refused(r) => Named::NoCell(r),
         Verdict::Accepted => {

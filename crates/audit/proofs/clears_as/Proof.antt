@@ -1,8 +1,8 @@
 -- `audit::clears_as` meets its contract: where no comparison differed, the cell breaks nothing.
--- The invariants: Ir, every face below place j lies inside the table. From there on bad is 0 only where it was 0 before the loop and
--- every comparison of the loop so far was equal: Id, each face below j is one dimension down; Ij, each pair of the law below j; Il,
--- each pair of j with a place below l; Iu, each unused place below j is the free mark. The measures, μr to μu: what is left of each
--- range. Assumes nothing.
+-- The invariants: Ir, every face below place j lies inside the table. In the other loops bad is 0 only where it was 0 before the loop
+-- and every comparison of the loop so far was equal: Iu, each unused place below j is the free mark; Id, each face below j is one
+-- dimension down; Ij, each pair of the law below j; Il, each pair of j with a place below l. The measures, μu to μj: what is left of
+-- each range. Assumes nothing.
 use mathlib.Core.Path.{_≡_, sym, _∙_}
 use mathlib.Core.Bool.{false≢true}
 use Prim.Native.Nat.{ℕ, _-_, _≤_, _<_}
@@ -20,48 +20,67 @@ use Rattle.audit.proofs.Clearing.{one-more, Agrees, used-above, all-equ
 use Rattle.audit.proofs.clears_as.Statement.{statement}
 use Rattle.audit.proofs.clears_as.Tie as tie
 
-abbrev Ir : tie.InvT-loop
-Ir t n c p used places faces bad j₀ j =
-    Cell t n c p used places faces × ((k : ℕ) → k < j → getD faces k 0 < n)
-
-abbrev μr : tie.MeasureT-loop
-μr t n c p used places faces bad j₀ j = used - j
-
-abbrev Id : tie.InvT-loop2
-Id t n c p used places faces bad₀ j₀ bad j =
-    bad ≡ 0 → (bad₀ ≡ 0) × ((k : ℕ) → k < j → dim t (getD faces k 0) ≡ p - 1)
-
-abbrev μd : tie.MeasureT-loop2
-μd t n c p used places faces bad₀ j₀ bad j = used - j
-
-abbrev Il : tie.InvT-loop4
-Il t n c p used places faces bad₀ j f l₀ bad l =
-    bad ≡ 0 → (bad₀ ≡ 0) × ((k : ℕ) → k < l → face t f k ≡ face t (getD faces k 0) (j - 1))
-
-abbrev μl : tie.MeasureT-loop4
-μl t n c p used places faces bad₀ j f l₀ bad l = j - l
-
-abbrev Ij : tie.InvT-loop3
-Ij t n c p used places faces bad₀ j₀ bad j =
-    bad ≡ 0 → (bad₀ ≡ 0) × ((k : ℕ) → k < j → Agrees t faces k)
-
-abbrev μj : tie.MeasureT-loop3
-μj t n c p used places faces bad₀ j₀ bad j = places - j
-
-abbrev Iu : tie.InvT-loop5
+abbrev Iu : tie.InvT-loop
 Iu t n c p used places faces bad₀ j₀ bad j =
     bad ≡ 0 → (bad₀ ≡ 0) × ((k : ℕ) → k < j → used ≤ k → getD faces k 0 ≡ freeMark)
 
-abbrev μu : tie.MeasureT-loop5
+abbrev μu : tie.MeasureT-loop
 μu t n c p used places faces bad₀ j₀ bad j = seven - j
 
-faces-requires : tie.Need-faces-requires Ir μr Id μd Il μl Ij μj Iu μu
+abbrev Ir : tie.InvT-loop2
+Ir t n c p used places faces bad j₀ j =
+    Cell t n c p used places faces × ((k : ℕ) → k < j → getD faces k 0 < n)
+
+abbrev μr : tie.MeasureT-loop2
+μr t n c p used places faces bad j₀ j = used - j
+
+abbrev Id : tie.InvT-loop3
+Id t n c p used places faces bad₀ j₀ bad j =
+    bad ≡ 0 → (bad₀ ≡ 0) × ((k : ℕ) → k < j → dim t (getD faces k 0) ≡ p - 1)
+
+abbrev μd : tie.MeasureT-loop3
+μd t n c p used places faces bad₀ j₀ bad j = used - j
+
+abbrev Il : tie.InvT-loop5
+Il t n c p used places faces bad₀ j f l₀ bad l =
+    bad ≡ 0 → (bad₀ ≡ 0) × ((k : ℕ) → k < l → face t f k ≡ face t (getD faces k 0) (j - 1))
+
+abbrev μl : tie.MeasureT-loop5
+μl t n c p used places faces bad₀ j f l₀ bad l = j - l
+
+abbrev Ij : tie.InvT-loop4
+Ij t n c p used places faces bad₀ j₀ bad j =
+    bad ≡ 0 → (bad₀ ≡ 0) × ((k : ℕ) → k < j → Agrees t faces k)
+
+abbrev μj : tie.MeasureT-loop4
+μj t n c p used places faces bad₀ j₀ bad j = places - j
+
+faces-requires : tie.Need-faces-requires Iu μu Ir μr Id μd Il μl Ij μj
 faces-requires c κs = search needs
 
-loop-holds : tie.Need-loop-holds Ir μr Id μd Il μl Ij μj Iu μu
-loop-holds c =
-    let q = c .before .before .pre in
-    let p = c .before .before .args .p in (
+loop-holds : tie.Need-loop-holds Iu μu Ir μr Id μd Il μl Ij μj
+loop-holds c = λ e. (e, λ k h u. omega arith)
+
+mul-bad : tie.Need-mul-bad Iu μu Ir μr Id μd Il μl Ij μj
+mul-bad c = search needs
+
+array-read-bad : tie.Need-array-read-bad Iu μu Ir μr Id μd Il μl Ij μj
+array-read-bad c = search needs
+
+add-j : tie.Need-add-j Iu μu Ir μr Id μd Il μl Ij μj
+add-j c = search needs
+
+loop-less : tie.Need-loop-less Iu μu Ir μr Id μd Il μl Ij μj
+loop-less c = search needs
+
+loop-again : tie.Need-loop-again Iu μu Ir μr Id μd Il μl Ij μj
+loop-again c = one-more _ _ _ _ _ _ (c .before .loop .inv) (λ e u. e)
+
+loop2-holds : tie.Need-loop2-holds Iu μu Ir μr Id μd Il μl Ij μj
+loop2-holds c =
+    let f = c .before .before in
+    let q = f .before .before .pre in
+    let p = f .before .before .args .p in (
       record {
         cells = q .0 .0;
         inside = q .0 .1;
@@ -70,154 +89,140 @@ loop-holds c =
         places-law = q .1 .1 .1;
         fits = omega (arith, q .1 .1 .0, used-fits p);
         fewer = omega (arith, q .1 .1 .0, q .1 .1 .1, law-places-fit p);
-        by-value = c .faces .ensures;
+        by-value = f .faces .ensures;
       },
       λ k h. omega arith,
     )
 
-mul-if1 : tie.Need-mul-if1 Ir μr Id μd Il μl Ij μj Iu μu
+mul-if1 : tie.Need-mul-if1 Iu μu Ir μr Id μd Il μl Ij μj
 mul-if1 c = search needs
 
-array-read-if1 : tie.Need-array-read-if1 Ir μr Id μd Il μl Ij μj Iu μu
+array-read-if1 : tie.Need-array-read-if1 Iu μu Ir μr Id μd Il μl Ij μj
 array-read-if1 c = search needs
 
-cast-if1 : tie.Need-cast-if1 Ir μr Id μd Il μl Ij μj Iu μu
+cast-if1 : tie.Need-cast-if1 Iu μu Ir μr Id μd Il μl Ij μj
 cast-if1 c = search needs
 
-returns : tie.Need-returns Ir μr Id μd Il μl Ij μj Iu μu
+returns : tie.Need-returns Iu μu Ir μr Id μd Il μl Ij μj
 returns c = λ e. absurd (false≢true e)
 
-add-j : tie.Need-add-j Ir μr Id μd Il μl Ij μj Iu μu
-add-j c = search needs
-
-loop-less : tie.Need-loop-less Ir μr Id μd Il μl Ij μj Iu μu
-loop-less c = search needs
-
-loop-again : tie.Need-loop-again Ir μr Id μd Il μl Ij μj Iu μu
-loop-again c =
-    let i = c .before .before .loop .inv in
-    (i .0, below-more _ _ (i .1) (c .if1 .left))
-
-loop2-holds : tie.Need-loop2-holds Ir μr Id μd Il μl Ij μj Iu μu
-loop2-holds c = λ e. (e, λ k h. omega arith)
-
-mul-f : tie.Need-mul-f Ir μr Id μd Il μl Ij μj Iu μu
-mul-f c = search needs
-
-array-read-f : tie.Need-array-read-f Ir μr Id μd Il μl Ij μj Iu μu
-array-read-f c = search needs
-
-cast-f : tie.Need-cast-f Ir μr Id μd Il μl Ij μj Iu μu
-cast-f c = search needs
-
-dim-requires : tie.Need-dim-requires Ir μr Id μd Il μl Ij μj Iu μu
-dim-requires c κs =
-    let i = c .before .before .before .loop .inv in
-    omega (arith, i .0 .cells, i .1 (c .before .loop2 .j) (omega arith))
-
-sub-bad : tie.Need-sub-bad Ir μr Id μd Il μl Ij μj Iu μu
-sub-bad c = used-above (c .before .before .before .before .loop .inv .0) _ (c .before .loop2-test .taken)
-
-add-j-2 : tie.Need-add-j-2 Ir μr Id μd Il μl Ij μj Iu μu
+add-j-2 : tie.Need-add-j-2 Iu μu Ir μr Id μd Il μl Ij μj
 add-j-2 c = search needs
 
-loop2-less : tie.Need-loop2-less Ir μr Id μd Il μl Ij μj Iu μu
+loop2-less : tie.Need-loop2-less Iu μu Ir μr Id μd Il μl Ij μj
 loop2-less c = search needs
 
-loop2-again : tie.Need-loop2-again Ir μr Id μd Il μl Ij μj Iu μu
-loop2-again c = one-more _ _ _ _ _ _ (c .before .before .loop2 .inv) (λ e. sym (c .dim .ensures) ∙ e)
+loop2-again : tie.Need-loop2-again Iu μu Ir μr Id μd Il μl Ij μj
+loop2-again c =
+    let i = c .before .before .loop2 .inv in
+    (i .0, below-more _ _ (i .1) (c .if1 .left))
 
-loop3-holds : tie.Need-loop3-holds Ir μr Id μd Il μl Ij μj Iu μu
+loop3-holds : tie.Need-loop3-holds Iu μu Ir μr Id μd Il μl Ij μj
 loop3-holds c = λ e. (e, λ k h. omega arith)
 
-mul-f-2 : tie.Need-mul-f-2 Ir μr Id μd Il μl Ij μj Iu μu
-mul-f-2 c = search needs
+mul-f : tie.Need-mul-f Iu μu Ir μr Id μd Il μl Ij μj
+mul-f c = search needs
 
-array-read-f-2 : tie.Need-array-read-f-2 Ir μr Id μd Il μl Ij μj Iu μu
-array-read-f-2 c = search needs
+array-read-f : tie.Need-array-read-f Iu μu Ir μr Id μd Il μl Ij μj
+array-read-f c = search needs
 
-cast-f-2 : tie.Need-cast-f-2 Ir μr Id μd Il μl Ij μj Iu μu
-cast-f-2 c = search needs
+cast-f : tie.Need-cast-f Iu μu Ir μr Id μd Il μl Ij μj
+cast-f c = search needs
 
-loop4-holds : tie.Need-loop4-holds Ir μr Id μd Il μl Ij μj Iu μu
-loop4-holds c = λ e. (e, λ k h. omega arith)
+dim-requires : tie.Need-dim-requires Iu μu Ir μr Id μd Il μl Ij μj
+dim-requires c κs =
+    let i = c .before .before .before .loop2 .inv in
+    omega (arith, i .0 .cells, i .1 (c .before .loop3 .j) (omega arith))
 
-mul-e : tie.Need-mul-e Ir μr Id μd Il μl Ij μj Iu μu
-mul-e c = search needs
+sub-bad : tie.Need-sub-bad Iu μu Ir μr Id μd Il μl Ij μj
+sub-bad c = used-above (c .before .before .before .before .loop2 .inv .0) _ (c .before .loop3-test .taken)
 
-array-read-e : tie.Need-array-read-e Ir μr Id μd Il μl Ij μj Iu μu
-array-read-e c = search needs
-
-cast-e : tie.Need-cast-e Ir μr Id μd Il μl Ij μj Iu μu
-cast-e c = search needs
-
-face-requires : tie.Need-face-requires Ir μr Id μd Il μl Ij μj Iu μu
-face-requires c κs =
-    let i = c .before .before .before .before .before .before .before .loop .inv in
-    (omega (arith, i .0 .cells, i .1 (c .before .before .before .loop3 .j) (omega arith)), search needs)
-
-sub-face : tie.Need-sub-face Ir μr Id μd Il μl Ij μj Iu μu
-sub-face c = search needs
-
-face-requires-2 : tie.Need-face-requires-2 Ir μr Id μd Il μl Ij μj Iu μu
-face-requires-2 c κs =
-    let i = c .before .before .before .before .before .before .before .before .loop .inv in
-    (omega (arith, i .0 .cells, i .1 (c .before .before .loop4 .l) (omega arith)), search needs)
-
-add-l : tie.Need-add-l Ir μr Id μd Il μl Ij μj Iu μu
-add-l c = search needs
-
-loop4-less : tie.Need-loop4-less Ir μr Id μd Il μl Ij μj Iu μu
-loop4-less c = search needs
-
-loop4-again : tie.Need-loop4-again Ir μr Id μd Il μl Ij μj Iu μu
-loop4-again c = one-more _ _ _ _ _ _ (c .before .before .before .loop4 .inv) (λ e. sym (c .before .face .ensures) ∙ e ∙ c .face2 .ensures)
-
-add-j-3 : tie.Need-add-j-3 Ir μr Id μd Il μl Ij μj Iu μu
+add-j-3 : tie.Need-add-j-3 Iu μu Ir μr Id μd Il μl Ij μj
 add-j-3 c = search needs
 
-loop3-less : tie.Need-loop3-less Ir μr Id μd Il μl Ij μj Iu μu
+loop3-less : tie.Need-loop3-less Iu μu Ir μr Id μd Il μl Ij μj
 loop3-less c = search needs
 
-loop3-again : tie.Need-loop3-again Ir μr Id μd Il μl Ij μj Iu μu
-loop3-again c =
-    λ e.
-    let q = c .before .loop4 .inv e in
-    let r = c .before .before .before .loop3 .inv (q .0) in
-    (r .0, below-more _ _ (r .1) (λ l h. q .1 l (omega arith)))
+loop3-again : tie.Need-loop3-again Iu μu Ir μr Id μd Il μl Ij μj
+loop3-again c = one-more _ _ _ _ _ _ (c .before .before .loop3 .inv) (λ e. sym (c .dim .ensures) ∙ e)
 
-loop5-holds : tie.Need-loop5-holds Ir μr Id μd Il μl Ij μj Iu μu
-loop5-holds c = λ e. (e, λ k h u. omega arith)
+loop4-holds : tie.Need-loop4-holds Iu μu Ir μr Id μd Il μl Ij μj
+loop4-holds c = λ e. (e, λ k h. omega arith)
 
-mul-bad : tie.Need-mul-bad Ir μr Id μd Il μl Ij μj Iu μu
-mul-bad c = search needs
+mul-f-2 : tie.Need-mul-f-2 Iu μu Ir μr Id μd Il μl Ij μj
+mul-f-2 c = search needs
 
-array-read-bad : tie.Need-array-read-bad Ir μr Id μd Il μl Ij μj Iu μu
-array-read-bad c = search needs
+array-read-f-2 : tie.Need-array-read-f-2 Iu μu Ir μr Id μd Il μl Ij μj
+array-read-f-2 c = search needs
 
-add-j-4 : tie.Need-add-j-4 Ir μr Id μd Il μl Ij μj Iu μu
-add-j-4 c = search needs
+cast-f-2 : tie.Need-cast-f-2 Iu μu Ir μr Id μd Il μl Ij μj
+cast-f-2 c = search needs
 
-loop5-less : tie.Need-loop5-less Ir μr Id μd Il μl Ij μj Iu μu
+loop5-holds : tie.Need-loop5-holds Iu μu Ir μr Id μd Il μl Ij μj
+loop5-holds c = λ e. (e, λ k h. omega arith)
+
+mul-e : tie.Need-mul-e Iu μu Ir μr Id μd Il μl Ij μj
+mul-e c = search needs
+
+array-read-e : tie.Need-array-read-e Iu μu Ir μr Id μd Il μl Ij μj
+array-read-e c = search needs
+
+cast-e : tie.Need-cast-e Iu μu Ir μr Id μd Il μl Ij μj
+cast-e c = search needs
+
+face-requires : tie.Need-face-requires Iu μu Ir μr Id μd Il μl Ij μj
+face-requires c κs =
+    let i = c .before .before .before .before .before .before .before .loop2 .inv in
+    (omega (arith, i .0 .cells, i .1 (c .before .before .before .loop4 .j) (omega arith)), search needs)
+
+sub-face : tie.Need-sub-face Iu μu Ir μr Id μd Il μl Ij μj
+sub-face c = search needs
+
+face-requires-2 : tie.Need-face-requires-2 Iu μu Ir μr Id μd Il μl Ij μj
+face-requires-2 c κs =
+    let i = c .before .before .before .before .before .before .before .before .loop2 .inv in
+    (omega (arith, i .0 .cells, i .1 (c .before .before .loop5 .l) (omega arith)), search needs)
+
+add-l : tie.Need-add-l Iu μu Ir μr Id μd Il μl Ij μj
+add-l c = search needs
+
+loop5-less : tie.Need-loop5-less Iu μu Ir μr Id μd Il μl Ij μj
 loop5-less c = search needs
 
-loop5-again : tie.Need-loop5-again Ir μr Id μd Il μl Ij μj Iu μu
-loop5-again c = one-more _ _ _ _ _ _ (c .before .loop5 .inv) (λ e u. e)
+loop5-again : tie.Need-loop5-again Iu μu Ir μr Id μd Il μl Ij μj
+loop5-again c = one-more _ _ _ _ _ _ (c .before .before .before .loop5 .inv) (λ e. sym (c .before .face .ensures) ∙ e ∙ c .face2 .ensures)
 
-returns-2 : tie.Need-returns-2 Ir μr Id μd Il μl Ij μj Iu μu
-returns-2 c =
-    let first = c .before .before .before .before .before .before .before in
-    let i = first .loop .inv in
+add-j-4 : tie.Need-add-j-4 Iu μu Ir μr Id μd Il μl Ij μj
+add-j-4 c = search needs
+
+loop4-less : tie.Need-loop4-less Iu μu Ir μr Id μd Il μl Ij μj
+loop4-less c = search needs
+
+loop4-again : tie.Need-loop4-again Iu μu Ir μr Id μd Il μl Ij μj
+loop4-again c =
     λ e.
-    let u = c .before .loop5 .inv (eqb-true _ _ e) in
-    let a = c .before .before .before .loop3 .inv (u .0) in
-    let d = c .before .before .before .before .before .loop2 .inv (a .0) in
+    let q = c .before .loop5 .inv e in
+    let r = c .before .before .before .loop4 .inv (q .0) in
+    (r .0, below-more _ _ (r .1) (λ l h. q .1 l (omega arith)))
+
+returns-2 : tie.Need-returns-2 Iu μu Ir μr Id μd Il μl Ij μj
+returns-2 c =
+    let dims = c .before .before .before in
+    let bounds = dims .before .before in
+    let first = bounds .before .before in
+    let i = bounds .loop2 .inv in
+    λ e.
+    let a = c .before .loop4 .inv (eqb-true _ _ e) in
+    let d = dims .loop3 .inv (a .0) in
+    let u = first .loop .inv (d .0) in
     all-equal (i .0) (first .before .before .before .pre .1 .0 .1) (λ k h. i .1 k (omega arith)) (λ k h. d .1 k (omega arith)) (λ j h. a .1 j (omega arith)) (λ k h. u .1 k (omega arith))
 
 pub clears-as-spec : {M : Type 1} → statement M
 clears-as-spec =
     tie.close
     (tie.spec
+    Iu
+    μu
     Ir
     μr
     Id
@@ -226,31 +231,35 @@ clears-as-spec =
     μl
     Ij
     μj
-    Iu
-    μu
     faces-requires
     loop-holds
-    mul-if1
-    array-read-if1
-    cast-if1
-    returns
+    mul-bad
+    array-read-bad
     add-j
     loop-less
     loop-again
     loop2-holds
+    mul-if1
+    array-read-if1
+    cast-if1
+    returns
+    add-j-2
+    loop2-less
+    loop2-again
+    loop3-holds
     mul-f
     array-read-f
     cast-f
     dim-requires
     sub-bad
-    add-j-2
-    loop2-less
-    loop2-again
-    loop3-holds
+    add-j-3
+    loop3-less
+    loop3-again
+    loop4-holds
     mul-f-2
     array-read-f-2
     cast-f-2
-    loop4-holds
+    loop5-holds
     mul-e
     array-read-e
     cast-e
@@ -258,15 +267,9 @@ clears-as-spec =
     sub-face
     face-requires-2
     add-l
-    loop4-less
-    loop4-again
-    add-j-3
-    loop3-less
-    loop3-again
-    loop5-holds
-    mul-bad
-    array-read-bad
-    add-j-4
     loop5-less
     loop5-again
+    add-j-4
+    loop4-less
+    loop4-again
     returns-2)

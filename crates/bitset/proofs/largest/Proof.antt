@@ -5,7 +5,7 @@ use native.Mathlib.Omega.{arith}
 use lib.ListN.{length, getD}
 use borrow.Author.Needs.{needs}
 use Rattle.bitset.proofs.Digits.{counts-fit}
-use Rattle.bitset.proofs.Greatest.{leading-inside, leading-is-greatest, zeros-past, zeros-down, zeros-all}
+use Rattle.bitset.proofs.LargestMember.{leading-inside, leading-is-largest, zeros-past, zeros-down, zeros-all}
 use Rattle.bitset.proofs.largest.Statement.{statement}
 use Rattle.bitset.proofs.largest.Tie as tie
 
@@ -49,7 +49,7 @@ returns : tie.Need-returns Inv-loop μ-loop
 returns c =
     let l = c .before .before .before .loop in
     let fits = c .before .shared-slice-known .given (l .w - 1) in
-    leading-is-greatest (c .before .before .before .before .args .ws .now) (l .w - 1) (omega arith) (omega arith) (fits .fits) (λ k h. l .inv .1 k (omega arith))
+    leading-is-largest (c .before .before .before .before .args .ws .now) (l .w - 1) (omega arith) (omega arith) (fits .fits) (λ k h. l .inv .1 k (omega arith))
 
 loop-less : tie.Need-loop-less Inv-loop μ-loop
 loop-less c = search needs

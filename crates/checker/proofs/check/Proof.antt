@@ -10,8 +10,9 @@ use Rattle.complex.specs.Cells.{cells}
 use Rattle.complex.proofs.Frames.{valid-is-frame}
 use Rattle.rows.specs.Rows.{evidenceWords}
 use Rattle.audit.proofs.Valid.{audit-accepts-iff-valid}
-use Rattle.checker.specs.Row.{lengthsFit}
-use Rattle.checker.proofs.Accepting.{refused-length, audit-refuses, fitting-length, rows-answer}
+use Rattle.rows.specs.Lengths.{lengthsFit}
+use Rattle.rows.proofs.Lengths.{fitting-length}
+use Rattle.checker.proofs.Accepting.{refused-length, audit-refuses, rows-answer}
 use Rattle.checker.proofs.Answers.{refused-answer}
 use Rattle.checker.proofs.check.Statement.{statement}
 use Rattle.checker.proofs.check.Tie as tie
@@ -41,15 +42,21 @@ enum-told : tie.Need-enum-told
 enum-told c = search needs
 
 -- where the audit accepts the table is valid
-valid : (c : tie.After-enum-told) → Valid (c .before .before .before .before .before .before .before .args .t .now)
+valid : (c : tie.After-enum-told) →
+    let a = c .before .before .before .before .before .before .before in
+    Valid (a .args .t .now)
 valid c =
     let d = c .before .before in
-    audit-accepts-iff-valid (d .before .before .before .before .before .args .t .now) .0 (sym (d .audit .ensures) ∙ c .enum-told .given .1)
+    let a = d .before .before .before .before .before in
+    audit-accepts-iff-valid (a .args .t .now) .0 (sym (d .audit .ensures) ∙ c .enum-told .given .1)
 
-long : (c : tie.After-enum-told) → length (c .before .before .before .before .before .before .before .args .evidence .now) ≡ evidenceWords (cells (c .before .before .before .before .before .before .before .args .t .now))
+long : (c : tie.After-enum-told) →
+    let a = c .before .before .before .before .before .before .before in
+    length (a .args .evidence .now) ≡ evidenceWords (cells (a .args .t .now))
 long c =
     let d = c .before .before in
-    fitting-length (d .before .before .before .before .before .args .t .now) (d .before .before .before .before .before .args .evidence .now) (fit (d .before))
+    let a = d .before .before .before .before .before in
+    fitting-length (a .args .t .now) (a .args .evidence .now) (fit (d .before))
 
 check-rows-requires : tie.Need-check-rows-requires
 check-rows-requires c κs = (valid-is-frame _ (valid c), long c)

@@ -24,12 +24,16 @@ abbrev μ-loop : tie.MeasureT-loop
 size-requires : tie.Need-size-requires Inv-loop μ-loop
 size-requires c κs = search needs
 
-inside : (c : tie.In-loop Inv-loop μ-loop) → c .before .loop .c < cells (c .before .before .before .before .before .args .t .now) .size
+inside : (c : tie.In-loop Inv-loop μ-loop) →
+    let a = c .before .before .before .before .before in
+    c .before .loop .c < cells (a .args .t .now) .size
 inside c = omega (arith, c .loop-test .taken, c .before .before .size .ensures)
 
 -- the numbers are few enough for 16 bits
 number-small : (c : tie.In-loop Inv-loop μ-loop) → c .before .loop .c < capacity
-number-small c = omega (arith, inside c, c .before .before .before .before .before .pre .0 .room)
+number-small c =
+    let a = c .before .before .before .before .before in
+    omega (arith, inside c, a .pre .0 .room)
 
 loop-holds : tie.Need-loop-holds Inv-loop μ-loop
 loop-holds c = (search needs, walk-none _ _, lives-none _)
@@ -40,7 +44,8 @@ slice-aggregate-add-live c = search needs
 add-live-requires : tie.Need-add-live-requires Inv-loop μ-loop
 add-live-requires c κs =
     let i = c .before in
-    (i .before .before .before .before .before .pre .0, (inside i, i .before .loop .inv .2))
+    let a = i .before .before .before .before .before in
+    (a .pre .0, (inside i, i .before .loop .inv .2))
 
 slice-aggregate-take-row : tie.Need-slice-aggregate-take-row Inv-loop μ-loop
 slice-aggregate-take-row c = search needs
@@ -58,7 +63,9 @@ enum-told : tie.Need-enum-told Inv-loop μ-loop
 enum-told c = search needs
 
 cast-t20 : tie.Need-cast-t20 Inv-loop μ-loop
-cast-t20 c = omega (arith, number-small (c .before .before .before .before .before .before .before .before .before))
+cast-t20 c =
+    let a = c .before .before .before .before .before .before .before .before .before in
+    omega (arith, number-small a)
 
 refused-requires : tie.Need-refused-requires Inv-loop μ-loop
 refused-requires c κs = search needs
@@ -76,7 +83,9 @@ enum-told-2 : tie.Need-enum-told-2 Inv-loop μ-loop
 enum-told-2 c = search needs
 
 cast-t22 : tie.Need-cast-t22 Inv-loop μ-loop
-cast-t22 c = omega (arith, number-small (c .before .before .before .before .before .before .before .before .before))
+cast-t22 c =
+    let a = c .before .before .before .before .before .before .before .before .before in
+    omega (arith, number-small a)
 
 refused-requires-2 : tie.Need-refused-requires-2 Inv-loop μ-loop
 refused-requires-2 c κs = search needs
@@ -105,7 +114,9 @@ level c =
     bounds-level (cells (a .args .t .now)) (a .args .evidence .now) (a .pre .0 .lawful) (a .pre .1) (i .before .loop .c) (inside i) _ _ _ (i .before .loop .inv .1) (a .pre .0 .low (i .before .loop .c)) _ (c .before .enum-told4 .given .1) (r .take-row .ensures) _ (c .dim .ensures)
 
 dim-requires : tie.Need-dim-requires Inv-loop μ-loop
-dim-requires c κs = inside (c .before .before .before .before .before .before .before .before .before)
+dim-requires c κs =
+    let a = c .before .before .before .before .before .before .before .before .before in
+    inside a
 
 mul-bounding : tie.Need-mul-bounding Inv-loop μ-loop
 mul-bounding c = omega (arith, level c)
@@ -141,7 +152,9 @@ loop-again c =
       r .before .before .before .before .add-live .ensures,
     )
 
-at-end : (c : tie.After-loop Inv-loop μ-loop) → c .before .loop .c ≡ cells (c .before .before .before .before .before .args .t .now) .size
+at-end : (c : tie.After-loop Inv-loop μ-loop) →
+    let a = c .before .before .before .before .before in
+    c .before .loop .c ≡ cells (a .args .t .now) .size
 at-end c = omega (arith, c .loop-test .left, c .before .loop .inv .0, c .before .before .size .ensures)
 
 census-requires : tie.Need-census-requires Inv-loop μ-loop

@@ -49,7 +49,8 @@ shared-slice-read-holes-3 c = search needs
 sub-holes-2 : tie.Need-sub-holes-2 Inv-loop μ-loop
 sub-holes-2 c =
     let l = c .before .before .before .before .loop in
-    omega (arith, c .before .before .before .before .before .pre .fit (l .p) (omega (arith, c .before .before .before .loop-test .taken)))
+    let a = c .before .before .before .before .before in
+    omega (arith, a .pre .fit (l .p) (omega (arith, c .before .before .before .loop-test .taken)))
 
 mul-holes-4 : tie.Need-mul-holes-4 Inv-loop μ-loop
 mul-holes-4 c = search needs

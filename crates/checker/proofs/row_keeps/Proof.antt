@@ -1,11 +1,15 @@
 -- `row_keeps` meets its contract: a free number by the empty row, a live cell by its own bit and then by the set of its dimension.
 -- Assumes nothing.
-use mathlib.Core.Path.{_≡_, sym, _∙_}
+use mathlib.Core.Path.{_≡_, sym, ap, subst, _∙_}
+use mathlib.Core.List.{List}
 use mathlib.Core.Bool.{true}
-use Prim.Native.Nat.{_≤_}
+use Prim.Native.Nat.{ℕ, _≤_}
 use native.Mathlib.Omega.{arith}
 use borrow.Author.Needs.{needs}
 use borrow.Author.Tests.{not-true, not-false}
+use lib.ListN.{length}
+use Rattle.bitset.specs.Bits.{IsWithin, fullWidth}
+use Rattle.bitset.proofs.RowLaws.{length-row}
 use Rattle.table.specs.Kind.{top}
 use Rattle.complex.specs.View.{viewOf}
 use Rattle.complex.specs.Cells.{cells}
@@ -24,7 +28,9 @@ is-empty-requires c κs = search needs
 level : (c : tie.Else1) → c .before .dim .result ≤ top
 level c = omega (arith, c .if1 .left)
 
-living : (c : tie.Else1) → cells (c .before .before .before .before .before .args .t .now) .live (c .before .before .before .before .before .args .c) ≡ true
+living : (c : tie.Else1) →
+    let s = c .before .before .before .before .before in
+    cells (s .args .t .now) .live (s .args .c) ≡ true
 living c =
     let a = c .before .before .before .before .before in
     a .pre .0 .living (a .args .c) (a .pre .1 .0) (omega (arith, level c, c .before .dim .ensures))
@@ -46,34 +52,25 @@ returns-2 c =
     let a = e .before .before .before .before .before .args in
     no-own (cells (a .t .now)) (a .c) (a .row .now) (living e) (sym (c .before .has .ensures) ∙ not-true _ (c .if2 .taken))
 
-mul-at : tie.Need-mul-at
-mul-at c = search needs
-
-add-end : tie.Need-add-end
-add-end c = search needs
-
-mul-within : tie.Need-mul-within
-mul-within c = search needs
-
-sub-within : tie.Need-sub-within
-sub-within c = search needs
-
-part-within-start : tie.Need-part-within-start
-part-within-start c = search needs
-
-part-within-end : tie.Need-part-within-end
-part-within-end c = search needs
+row-requires : tie.Need-row-requires
+row-requires c κs = search needs
 
 within-requires : tie.Need-within-requires
-within-requires c κs = search needs
+within-requires c κs =
+    let e = c .before .before .before in
+    let a = e .before .before .before .before .before in
+    let wide = length-row fullWidth (a .args .lives .now) (e .before .dim .result) (omega (arith, level e, a .pre .1 .1 .1 .long)) in
+    omega (arith, a .pre .1 .1 .0, ap length (c .row .ensures), wide)
 
 returns-3 : tie.Need-returns-3
 returns-3 c =
-    let h = c .before .before .before in
+    let r = c .before in
+    let h = r .before .before in
     let e = h .before in
     let a = e .before .before .before .before .before in
+    let inside = subst (λ (x : List ℕ). IsWithin (a .args .row .now) x (c .within .result)) (r .row .ensures) (c .within .ensures) in
     row-within (cells (a .args .t .now)) (a .args .c) (a .args .row .now) (a .args .lives .now) (living e) (a .pre .1 .1 .0) (a .pre .1 .1 .1)
-    (sym (h .has .ensures) ∙ not-false _ (c .before .before .if2 .left)) (e .before .dim .result) (e .before .dim .ensures) (level e) _ (c .within .ensures)
+    (sym (h .has .ensures) ∙ not-false _ (r .before .if2 .left)) (e .before .dim .result) (e .before .dim .ensures) (level e) _ inside
 
 pub row-keeps-spec : {M : Type 1} → statement M
 row-keeps-spec =
@@ -84,11 +81,6 @@ row-keeps-spec =
     returns
     has-requires
     returns-2
-    mul-at
-    add-end
-    mul-within
-    sub-within
-    part-within-start
-    part-within-end
+    row-requires
     within-requires
     returns-3)

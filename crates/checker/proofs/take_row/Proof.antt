@@ -8,10 +8,10 @@ use borrow.Author.Tests.{not-true, not-false}
 use Rattle.complex.specs.View.{viewOf}
 use Rattle.complex.specs.Cells.{cells}
 use Rattle.checker.specs.Check.{keepsA}
-use Rattle.checker.specs.Row.{topNumber}
+use Rattle.checker.specs.Row.{largestNumber}
 use Rattle.checker.proofs.RowTests.{free-number}
-use Rattle.checker.proofs.Rules.{kept-row-live, free-no-top, point-no-top}
-use Rattle.checker.proofs.LargestMet.{top-fits}
+use Rattle.checker.proofs.Rules.{kept-row-live, free-no-largest, point-no-largest}
+use Rattle.checker.proofs.LargestMet.{largest-fits}
 use Rattle.checker.proofs.take_row.Statement.{statement}
 use Rattle.checker.proofs.take_row.Tie as tie
 
@@ -22,7 +22,9 @@ returns : tie.Need-returns
 returns c = sym (c .before .keeps-a .ensures) ∙ not-true _ (c .if1 .taken)
 
 -- past the first test the row keeps rule A
-kept : (c : tie.Else1) → keepsA (cells (c .before .before .before .before .before .before .args .t .now)) (c .before .before .before .before .before .before .args .evidence .now) (c .before .before .before .before .before .before .args .c) ≡ true
+kept : (c : tie.Else1) →
+    let a = c .before .before .before .before .before .before in
+    keepsA (cells (a .args .t .now)) (a .args .evidence .now) (a .args .c) ≡ true
 kept c = sym (c .before .keeps-a .ensures) ∙ not-false _ (c .if1 .left)
 
 dim-requires : tie.Need-dim-requires
@@ -34,7 +36,7 @@ returns-2 c =
     let e = c .before .before in
     let a = e .before .before .before .before .before .before in (
       kept e,
-      point-no-top (cells (a .args .t .now)) (a .args .evidence .now) (a .pre .1 .0) (a .args .c) (a .pre .1 .1 .0) (a .pre .0 .lawful) (kept e)
+      point-no-largest (cells (a .args .t .now)) (a .args .evidence .now) (a .pre .1 .0) (a .args .c) (a .pre .1 .1 .0) (a .pre .0 .lawful) (kept e)
           (omega (arith, c .before .dim .ensures, c .if2 .taken)),
       refl,
     )
@@ -46,13 +48,13 @@ returns-3 c =
     let e = d .before in
     let a = e .before .before .before .before .before .before in (
       kept e,
-      free-no-top (cells (a .args .t .now)) (a .args .evidence .now) (a .pre .1 .0) (a .args .c) (a .pre .1 .1 .0) (kept e)
+      free-no-largest (cells (a .args .t .now)) (a .args .evidence .now) (a .pre .1 .0) (a .args .c) (a .pre .1 .1 .0) (kept e)
           (free-number (viewOf (a .args .t .now)) (a .pre .0) (a .args .c) (d .dim .result) (d .dim .ensures) (omega (arith, c .if3 .taken))),
       refl,
     )
 
-row-top-requires : tie.Need-row-top-requires
-row-top-requires c κs =
+row-largest-requires : tie.Need-row-largest-requires
+row-largest-requires c κs =
     let e = c .before .before .before in
     let a = e .before .before .before .before .before .before in
     (a .pre .0, (a .pre .1 .0, (a .pre .1 .1 .0, kept-row-live (cells (a .args .t .now)) (a .args .evidence .now) (a .pre .1 .0) (a .args .c) (a .pre .1 .1 .0) (kept e))))
@@ -72,18 +74,19 @@ same-length c = search needs
 returns-4 : tie.Need-returns-4
 returns-4 c =
     let r = c .before .before .before .before .before .before in
-    (kept (r .before .before .before .before), (_, sym (r .row-top .ensures) ∙ ap topNumber (c .before .before .before .before .largest .given .1), sym (c .before .has .ensures) ∙ c .if4 .taken))
+    (kept (r .before .before .before .before), (_, sym (r .row-largest .ensures) ∙ ap largestNumber (c .before .before .before .before .largest .given .1), sym (c .before .has .ensures) ∙ c .if4 .taken))
 
 toggle-requires : tie.Need-toggle-requires
 toggle-requires c κs =
     let r = c .before .before .before .before .before .before .before in
     let a = r .before .before .before .before .before .before .before .before .before .before in
-    omega (arith, top-fits (cells (a .args .t .now)) (a .args .evidence .now) (a .pre .0 .room) (a .args .c) _ (sym (r .row-top .ensures) ∙ ap topNumber (c .before .before .before .before .before .largest .given .1)), a .pre .1 .1 .1 .0)
+    let s = c .before .before .before .before .before in
+    omega (arith, largest-fits (cells (a .args .t .now)) (a .args .evidence .now) (a .pre .0 .room) (a .args .c) _ (sym (r .row-largest .ensures) ∙ ap largestNumber (s .largest .given .1)), a .pre .1 .1 .1 .0)
 
 returns-5 : tie.Need-returns-5
 returns-5 c =
     let r = c .before .before in
-    (kept (r .before .before .before .before), sym (r .row-top .ensures) ∙ ap topNumber (c .enum-told .given .1), refl)
+    (kept (r .before .before .before .before), sym (r .row-largest .ensures) ∙ ap largestNumber (c .enum-told .given .1), refl)
 
 same-length-2 : tie.Need-same-length-2
 same-length-2 c = search needs
@@ -92,7 +95,7 @@ returns-6 : tie.Need-returns-6
 returns-6 c =
     let h = c .before .before .before .before .before in
     let r = h .before .before .before .before .before in
-    (kept (r .before .before .before .before), (_, sym (r .row-top .ensures) ∙ ap topNumber (h .before .before .before .largest .given .1), sym (h .has .ensures) ∙ c .before .before .before .before .if4 .left, c .before .before .toggle .ensures))
+    (kept (r .before .before .before .before), (_, sym (r .row-largest .ensures) ∙ ap largestNumber (h .before .before .before .largest .given .1), sym (h .has .ensures) ∙ c .before .before .before .before .if4 .left, c .before .before .toggle .ensures))
 
 pub take-row-spec : {M : Type 1} → statement M
 take-row-spec =
@@ -103,7 +106,7 @@ take-row-spec =
     dim-requires
     returns-2
     returns-3
-    row-top-requires
+    row-largest-requires
     enum-told
     enum-known-largest
     has-requires

@@ -1,18 +1,17 @@
--- `merge::join` meets its contract. The invariant: the records below c have gone through the map. The measure: the records left.
+-- `merge::join` meets its contract. The invariant: the pass stands before record c. The measure: the records left.
 -- Assumes nothing.
-use mathlib.Core.Path.{_≡_, _∙_}
 use Prim.Native.Nat.{_-_, _≤_}
 use borrow.Author.Needs.{needs}
 use native.Mathlib.Omega.{arith}
-use lib.ListN.{length, getD-replicate}
-use Rattle.table.specs.Kind.{faces, freeMark}
-use Rattle.merge.proofs.Passes.{partly, partly-start, begins-none, partly-more, partly-end}
+use lib.ListN.{getD-replicate}
+use Rattle.table.specs.Kind.{capacity, faces, freeMark}
+use Rattle.merge.specs.Writing.{Begun}
+use Rattle.merge.proofs.Passes.{begun-start, partly-end}
 use Rattle.merge.proofs.join.Statement.{statement}
 use Rattle.merge.proofs.join.Tie as tie
 
 abbrev Inv-loop : tie.InvT-loop
-Inv-loop t₀ kept gone n c₀ t c =
-    (c ≤ n) × (length t ≡ length t₀) × (t ≡ partly kept gone t₀ c)
+Inv-loop t₀ kept gone n c₀ t c = (c ≤ n) × Begun kept gone t₀ t c
 
 abbrev μ-loop : tie.MeasureT-loop
 μ-loop t₀ kept gone n c₀ t c = n - c
@@ -21,41 +20,53 @@ room-requires : tie.Need-room-requires Inv-loop μ-loop
 room-requires c κs = search needs
 
 loop-holds : tie.Need-loop-holds Inv-loop μ-loop
-loop-holds c =
-    let s = c .before .before .before in
-    (search needs, search needs, partly-start (s .args .kept) (s .args .gone) (s .args .t .now) (s .pre .2 .sized))
+loop-holds c = (omega arith, begun-start _ _ _ (c .before .before .before .pre .2))
 
-rename-requires : tie.Need-rename-requires Inv-loop μ-loop
-rename-requires c κs =
-    let l = c .before .before .loop in
-    (omega arith, begins-none _ _ _ (c .before .before .before .before .before .before .pre .2) (l .c) (l .c) (l .t) (omega arith) (l .inv .2))
+-- four more than a number of records is a number
+fits : (p : tie.At-loop Inv-loop μ-loop) → p .loop .c ≤ capacity
+fits p = omega (arith, p .loop .inv .0, p .before .room .ensures, p .before .before .before .before .pre .2 .sized .room)
+
+add-loop : tie.Need-add-loop Inv-loop μ-loop
+add-loop c = omega (arith, fits c)
+
+add-rename-run : tie.Need-add-rename-run Inv-loop μ-loop
+add-rename-run c = omega (arith, fits (c .before .before))
+
+rename-run-requires : tie.Need-rename-run-requires Inv-loop μ-loop
+rename-run-requires c κs =
+    let b = c .before .before .loop .inv .1 in
+    (omega arith, omega (arith, b .size), (_, b))
 
 add-c : tie.Need-add-c Inv-loop μ-loop
-add-c c = search needs
+add-c c = omega (arith, fits (c .before .before .before .before .before))
 
 loop-less : tie.Need-loop-less Inv-loop μ-loop
 loop-less c = search needs
 
 loop-again : tie.Need-loop-again Inv-loop μ-loop
 loop-again c =
-    let r = c .before .before .rename in
-    let p = c .before .before .before .before .before in
-    let l = p .loop in (
-      search needs,
-      r .ensures .size ∙ l .inv .1,
-      partly-more _ _ (p .before .before .before .before .args .t .now) (l .c) (l .t) _ (search needs) (l .inv .2) (r .ensures),
-    )
+    let r = c .before .before in
+    (search needs, r .rename-run .ensures _ (r .before .before .before .loop .inv .1))
+
+rename-run-requires-2 : tie.Need-rename-run-requires-2 Inv-loop μ-loop
+rename-run-requires-2 c κs =
+    let l = c .before .before .loop in
+    (omega (arith, l .inv .0), omega (arith, l .inv .0, l .inv .1 .size), (_, l .inv .1))
 
 put-requires : tie.Need-put-requires Inv-loop μ-loop
-put-requires c κs = omega arith
+put-requires c κs =
+    let r = c .before .before .before in
+    omega (arith, r .rename-run2 .ensures _ (r .before .before .before .loop .inv .1) .size)
 
 same-length : tie.Need-same-length Inv-loop μ-loop
 same-length c = search needs
 
 returns : tie.Need-returns Inv-loop μ-loop
 returns c =
-    let l = c .before .before .before .before .before .loop in
-    partly-end _ _ _ (l .c) (l .t) _ _ (search needs) (search needs) (l .inv .2) (c .before .before .put .ensures)
+    let p = c .before .before in
+    let r = p .before .before .before .before in
+    let b = r .rename-run2 .ensures _ (r .before .before .before .loop .inv .1) in
+    partly-end _ _ _ _ _ _ _ (search needs) (search needs) (b .done) (p .put .ensures)
     (λ j h. getD-replicate faces j freeMark 0 h)
 
 pub join-spec : {M : Type 1} → statement M
@@ -66,10 +77,13 @@ join-spec =
     μ-loop
     room-requires
     loop-holds
-    rename-requires
+    add-loop
+    add-rename-run
+    rename-run-requires
     add-c
     loop-less
     loop-again
+    rename-run-requires-2
     put-requires
     same-length
     returns)

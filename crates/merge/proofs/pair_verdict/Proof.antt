@@ -6,7 +6,7 @@ use borrow.Author.Needs.{needs}
 use borrow.Author.Tests.{not-true, not-false}
 use Rattle.table.specs.Table.{dim, live}
 use Rattle.table.proofs.Records.{live-true}
-use Rattle.merge.proofs.Pairs.{first-not-live, second-not-live, one-cell-twice, dimensions-differ, faces-differ, nothing-against}
+use Rattle.merge.proofs.Pairs.{first-not-live, second-not-live, one-cell-twice, dimensions-differ, nothing-against}
 use Rattle.merge.proofs.pair_verdict.Statement.{statement}
 use Rattle.merge.proofs.pair_verdict.Tie as tie
 
@@ -58,29 +58,12 @@ asked c = c .before .before .before .before .before .before .before .before .bef
 same-dim : (c : tie.Else4) → dim (asked c .args .t .now) (asked c .args .a) ≡ dim (asked c .args .t .now) (asked c .args .b)
 same-dim c = sym (c .before .before .dim .ensures) ∙ c .if4 .left ∙ c .before .dim2 .ensures
 
-same-faces-requires : tie.Need-same-faces-requires
-same-faces-requires c κs = (
-  live-true _ _ (live-first (c .before .before .before .before .before .before)) .inside,
-  live-true _ _ (live-second (c .before .before .before .before)) .inside,
-)
-
 returns-5 : tie.Need-returns-5
 returns-5 c =
-    let e = c .before .before in
-    faces-differ _ _ _ (live-first (e .before .before .before .before .before .before))
-    (live-second (e .before .before .before .before))
-    (e .before .before .before .if3 .left)
-    (same-dim e)
-    (sym (c .before .same-faces .ensures) ∙ not-true (c .before .same-faces .result) (c .if5 .taken))
-
-returns-6 : tie.Need-returns-6
-returns-6 c =
-    let e = c .before .before in
-    nothing-against _ _ _ (live-first (e .before .before .before .before .before .before))
-    (live-second (e .before .before .before .before))
-    (e .before .before .before .if3 .left)
-    (same-dim e)
-    (sym (c .before .same-faces .ensures) ∙ not-false (c .before .same-faces .result) (c .if5 .left))
+    nothing-against _ _ _ (live-first (c .before .before .before .before .before .before))
+    (live-second (c .before .before .before .before))
+    (c .before .before .before .if3 .left)
+    (same-dim c)
 
 pub pair-verdict-spec : {M : Type 1} → statement M
 pair-verdict-spec =
@@ -94,6 +77,4 @@ pair-verdict-spec =
     dim-requires
     dim-requires-2
     returns-4
-    same-faces-requires
-    returns-5
-    returns-6)
+    returns-5)

@@ -1,31 +1,53 @@
--- `merge::verdict_of` meets its contract: where the audit refuses its refusal stands, else the pair decides. Assumes nothing.
-use mathlib.Core.Path.{sym, _∙_}
-use Rattle.merge.proofs.Pairs.{invalid-refuses, valid-then-pair}
+-- `merge::verdict_of` meets its contract: what may not be joined is refused so, else the faces decide. Assumes nothing.
+use mathlib.Core.Path.{_≡_, sym, _∙_}
+use borrow.Author.Tests.{not-true, not-false}
+use Rattle.audit.specs.Audit.{grounds}
+use Rattle.calls.specs.Calls.{verdict}
+use Rattle.calls.specs.declared.Verdict.the-variants.{Accepted}
+use Rattle.merge.specs.Merge.{pairGrounds}
+use Rattle.merge.proofs.Pairs.{joined-inside, faces-differ, faces-agree, unjoinable-refuses}
 use borrow.Author.Needs.{needs}
 use Rattle.merge.proofs.verdict_of.Statement.{statement}
 use Rattle.merge.proofs.verdict_of.Tie as tie
 
-audit-requires : tie.Need-audit-requires
-audit-requires c κs = search needs
+joinable-requires : tie.Need-joinable-requires
+joinable-requires c κs = search needs
 
 enum-told : tie.Need-enum-told
 enum-told c = search needs
 
-pair-verdict-requires : tie.Need-pair-verdict-requires
-pair-verdict-requires c κs = search needs
+abbrev asked : tie.After-enum-told → tie.Start
+asked c = c .before .before .before .before
+
+-- the two may be joined
+accepted :
+    (c : tie.After-enum-told) →
+    verdict (grounds (asked c .args .t .now) (pairGrounds (asked c .args .t .now) (asked c .args .a) (asked c .args .b))) ≡ Accepted
+accepted c = sym (c .before .before .joinable .ensures) ∙ c .enum-told .given .1
+
+same-faces-requires : tie.Need-same-faces-requires
+same-faces-requires c κs = joined-inside _ _ _ (accepted c)
+
+returns : tie.Need-returns
+returns c = faces-differ _ _ _ (accepted (c .before .before)) (sym (c .before .same-faces .ensures) ∙ not-true _ (c .if1 .taken))
 
 enum-known-found : tie.Need-enum-known-found
 enum-known-found c = search needs
 
-returns : tie.Need-returns
-returns c =
-    c .pair-verdict .ensures
-    ∙ sym (valid-then-pair _ _ _ (sym (c .before .before .before .audit .ensures) ∙ c .before .enum-told .given .1))
-
 returns-2 : tie.Need-returns-2
-returns-2 c = sym (invalid-refuses _ _ _ _ (sym (c .before .before .before .audit .ensures) ∙ c .before .found .given .1))
+returns-2 c = faces-agree _ _ _ (accepted (c .before .before)) (sym (c .before .same-faces .ensures) ∙ not-false _ (c .if1 .left))
+
+returns-3 : tie.Need-returns-3
+returns-3 c = unjoinable-refuses _ _ _ _ (sym (c .before .before .before .joinable .ensures) ∙ c .before .found .given .1)
 
 pub verdict-of-spec : {M : Type 1} → statement M
 verdict-of-spec =
     tie.close
-    (tie.spec audit-requires enum-told pair-verdict-requires enum-known-found returns returns-2)
+    (tie.spec
+    joinable-requires
+    enum-told
+    same-faces-requires
+    returns
+    enum-known-found
+    returns-2
+    returns-3)

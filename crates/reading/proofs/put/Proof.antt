@@ -1,9 +1,13 @@
 -- `reading::put` meets its contract: on either side of the test of the place the sum at u passes through 64 bits and comes back.
 -- Assumes nothing.
 use borrow.Author.Needs.{needs}
-use Rattle.reading.proofs.Registers.{even-fits, odd-fits, even-puts, odd-puts}
+use Rattle.reading.proofs.Registers.{Summing, even-fits, odd-fits, even-puts, odd-puts}
 use Rattle.reading.proofs.put.Statement.{statement}
 use Rattle.reading.proofs.put.Tie as tie
+
+-- the number that was read, the coefficient and their sum fit
+sums : (c : tie.After-old) → let a = c .before .args in Summing (a .result .now) (a .u) (a .j) (a .x)
+sums c = record { old = record { sfits = c .old .given }; new = c .before .fits .x; sum = c .before .pre .1 }
 
 mul-old : tie.Need-mul-old
 mul-old c = search needs
@@ -12,9 +16,7 @@ slice-copy-out-old : tie.Need-slice-copy-out-old
 slice-copy-out-old c = search needs
 
 add-result : tie.Need-add-result
-add-result c =
-    let a = c .before .before .args in
-    even-fits (a .result .now) (a .u) (a .j) (a .x) (record { sfits = c .before .old .given }) (c .before .before .fits .x) (c .before .before .pre .1) (c .if1 .taken)
+add-result c = even-fits (sums (c .before)) (c .if1 .taken)
 
 mul-t11 : tie.Need-mul-t11
 mul-t11 c = search needs
@@ -23,9 +25,7 @@ slice-set-from-result : tie.Need-slice-set-from-result
 slice-set-from-result c = search needs
 
 sub-result : tie.Need-sub-result
-sub-result c =
-    let a = c .before .before .args in
-    odd-fits (a .result .now) (a .u) (a .j) (a .x) (record { sfits = c .before .old .given }) (c .before .before .fits .x) (c .before .before .pre .1) (c .if1 .left)
+sub-result c = odd-fits (sums (c .before)) (c .if1 .left)
 
 mul-t14 : tie.Need-mul-t14
 mul-t14 c = search needs
@@ -37,17 +37,13 @@ same-length : tie.Need-same-length
 same-length c = search needs
 
 returns : tie.Need-returns
-returns c =
-    let a = c .before .before .args in
-    even-puts (a .result .now) (a .u) (a .j) (a .x) (record { sfits = c .before .old .given }) (c .before .before .fits .x) (c .before .before .pre .1) (c .if1 .taken)
+returns c = even-puts (sums (c .before)) (c .if1 .taken)
 
 same-length-2 : tie.Need-same-length-2
 same-length-2 c = search needs
 
 returns-2 : tie.Need-returns-2
-returns-2 c =
-    let a = c .before .before .args in
-    odd-puts (a .result .now) (a .u) (a .j) (a .x) (record { sfits = c .before .old .given }) (c .before .before .fits .x) (c .before .before .pre .1) (c .if1 .left)
+returns-2 c = odd-puts (sums (c .before)) (c .if1 .left)
 
 pub put-spec : {M : Type 1} → statement M
 put-spec =

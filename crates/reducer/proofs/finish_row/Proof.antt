@@ -5,7 +5,7 @@ use mathlib.Core.Path.{_≡_, subst, _∙_}
 use Prim.Native.Nat.{_+_, _*_, _≤_, _<_}
 use native.Mathlib.Omega.{arith}
 use lib.ListN.{length}
-use Rattle.bitset.specs.Bits.{IsGreatest, TopIs}
+use Rattle.bitset.specs.Bits.{IsLargestIn, LargestIs}
 use Rattle.complex.specs.Cells.{cells}
 use Rattle.reducer.proofs.Heights.{height}
 use Rattle.reducer.proofs.RowAdditions.{Going, going-first, largest-asks, ends-empty, place, kept-room, ends-free, add-asks, falls, goes-on}
@@ -21,13 +21,15 @@ abbrev μ-loop : tie.MeasureT-loop
 
 -- the largest cell of the boundary, its place among the owners, and its words among the boundaries
 module _ (c : tie.After-largest2 Inv-loop μ-loop) where
-  largest-here : IsGreatest (c .before .before .before .before .loop .b) (c .largest2 .given .0 .0)
-  largest-here = subst (TopIs (c .before .before .before .before .loop .b)) (c .largest2 .given .1) (c .before .before .largest .ensures)
+  largest-here : IsLargestIn (c .before .before .before .before .loop .b) (c .largest2 .given .0 .0)
+  largest-here = subst (LargestIs (c .before .before .before .before .loop .b)) (c .largest2 .given .1) (c .before .before .largest .ensures)
 
   place-here : c .largest2 .given .0 .0 < length (c .before .before .before .before .loop .owner)
   place-here = place (c .before .before .before .before .loop .inv .4) largest-here
 
-  room-here : c .largest2 .given .0 .0 * c .before .before .before .before .before .before .before .before .before .before .args .w + c .before .before .before .before .before .before .before .before .before .before .args .w ≤ length (c .before .before .before .before .loop .kept)
+  room-here :
+      let a = c .before .before .before .before .before .before .before .before .before .before in
+      c .largest2 .given .0 .0 * a .args .w + a .args .w ≤ length (c .before .before .before .before .loop .kept)
   room-here = kept-room (c .before .before .before .before .loop .inv .4) largest-here
 
 loop-holds : tie.Need-loop-holds Inv-loop μ-loop
@@ -54,7 +56,7 @@ same-length-4 : tie.Need-same-length-4 Inv-loop μ-loop
 same-length-4 c = search needs
 
 returns : tie.Need-returns Inv-loop μ-loop
-returns c = ends-empty (c .before .before .before .before .loop .inv .4) (subst (TopIs _) (c .enum-told .given .1) (c .before .before .largest .ensures))
+returns c = ends-empty (c .before .before .before .before .loop .inv .4) (subst (LargestIs _) (c .enum-told .given .1) (c .before .before .largest .ensures))
 
 enum-known-largest : tie.Need-enum-known-largest Inv-loop μ-loop
 enum-known-largest c = search needs
@@ -66,7 +68,9 @@ slice-read-a : tie.Need-slice-read-a Inv-loop μ-loop
 slice-read-a c = place-here (c .before .before)
 
 cast-owner : tie.Need-cast-owner Inv-loop μ-loop
-cast-owner c = let g = c .before .before .before .before .before .before .before .loop .inv .4 in omega (arith, g .room, g .inside)
+cast-owner c =
+    let a = c .before .before .before .before .before .before .before in
+    let g = a .loop .inv .4 in omega (arith, g .room, g .inside)
 
 mul-owner : tie.Need-mul-owner Inv-loop μ-loop
 mul-owner c = let h = place-here (c .before .before .before) in search needs

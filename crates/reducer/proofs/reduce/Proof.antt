@@ -9,7 +9,9 @@ use Rattle.reducer.proofs.reduce.Statement.{statement}
 use Rattle.reducer.proofs.reduce.Tie as tie
 
 -- the verdict where the call is accepted
-yes-here : (c : tie.After-enum-told) → reduceVerdict (c .before .before .before .before .before .before .args .t .now) (c .before .before .before .before .before .before .args .evidence .now) ≡ Accepted
+yes-here : (c : tie.After-enum-told) →
+    let a = c .before .before .before .before .before .before in
+    reduceVerdict (a .args .t .now) (a .args .evidence .now) ≡ Accepted
 yes-here c = sym (c .before .before .judge .ensures) ∙ c .enum-told .given .1
 
 judge-requires : tie.Need-judge-requires
@@ -22,21 +24,24 @@ enum-told : tie.Need-enum-told
 enum-told c = search needs
 
 fill-requires : tie.Need-fill-requires
-fill-requires c κs = let a = c .before .before .before .before .before .before .before in
+fill-requires c κs =
+    let a = c .before .before .before .before .before .before .before in
     (valid-is-frame (a .args .t .now) (accepted-valid (a .args .t .now) (a .args .evidence .now) (yes-here (c .before))), accepted-long (a .args .t .now) (a .args .evidence .now) (yes-here (c .before)))
 
 same-length : tie.Need-same-length
 same-length c = search needs
 
 returns : tie.Need-returns
-returns c = let a = c .before .before .before .before .before .before .before in
+returns c =
+    let a = c .before .before .before .before .before .before .before in
     refused-ends (a .args .t .now) (a .args .evidence .now) _ _ (sym (c .before .before .before .judge .ensures) ∙ c .before .v .given .1) refl refl
 
 same-length-2 : tie.Need-same-length-2
 same-length-2 c = search needs
 
 returns-2 : tie.Need-returns-2
-returns-2 c = let a = c .before .before .before .before .before .before .before .before .before .before in
+returns-2 c =
+    let a = c .before .before .before .before .before .before .before .before .before .before in
     accepted-ends (a .args .t .now) (a .args .evidence .now) (yes-here (c .before .before .before .before)) _ _ refl (c .before .before .fill .ensures)
 
 pub reduce-spec : {M : Type 1} → statement M

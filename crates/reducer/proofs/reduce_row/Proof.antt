@@ -40,12 +40,14 @@ begun-here c =
 
 slice-aggregate-finish-row : tie.Need-slice-aggregate-finish-row
 slice-aggregate-finish-row c =
-    c .before .before .before .before .before .before .before .before .before .before .before .before .pre .1 .1 .0 ∙ sym (begun-here (c .before .before) .long)
+    let a = c .before .before .before .before .before .before .before .before .before .before .before .before in
+    a .pre .1 .1 .0 ∙ sym (begun-here (c .before .before) .long)
 
 finish-row-requires : tie.Need-finish-row-requires
 finish-row-requires c κs =
     let a = c .before .before .before .before .before .before .before .before .before .before .before .before .before .before .before in
-    (a .pre .0, (inside a, (a .pre .1 .1 .0, begun-here (c .before .before .before .before .before))))
+    let s = c .before .before .before .before .before in
+    (a .pre .0, (inside a, (a .pre .1 .1 .0, begun-here s)))
 
 same-length : tie.Need-same-length
 same-length c = search needs
@@ -59,7 +61,9 @@ same-length-3 c = search needs
 returns : tie.Need-returns
 returns c =
     let started = c .before .before .before .before .before .before .before .before .before .before .before .before .before .before .before .before .before in
-    finished-since (kept-others _ (started .before .before .before .before .before .before .pre .1 .1 .0) (started .start-row .ensures)) (c .before .before .before .before .before .before .before .finish-row .ensures)
+    let s = c .before .before .before .before .before .before .before in
+    let a = started .before .before .before .before .before .before in
+    finished-since (kept-others _ (a .pre .1 .1 .0) (started .start-row .ensures)) (s .finish-row .ensures)
 
 pub reduce-row-spec : {M : Type 1} → statement M
 reduce-row-spec =

@@ -19,11 +19,19 @@ abbrev μ-loop : tie.MeasureT-loop
 μ-loop t evidence₀ kept₀ owner₀ n w additions₀ c₀ evidence kept owner additions c = n - c
 
 -- a number with a dimension is live, and one with none is free
-live-here : (c : tie.Else1 Inv-loop μ-loop) → cells (c .before .before .before .before .before .before .before .before .before .before .args .t .now) .live (c .before .before .before .loop .c) ≡ true
-live-here c = c .before .before .before .before .before .before .before .before .before .before .pre .0 .living _ (omega arith) (omega (arith, c .before .dim .ensures))
+live-here : (c : tie.Else1 Inv-loop μ-loop) →
+    let s = c .before .before .before .before .before .before .before .before .before .before in
+    cells (s .args .t .now) .live (c .before .before .before .loop .c) ≡ true
+live-here c =
+    let s = c .before .before .before .before .before .before .before .before .before .before in
+    s .pre .0 .living _ (omega arith) (omega (arith, c .before .dim .ensures))
 
-free-here : (c : tie.Then1 Inv-loop μ-loop) → cells (c .before .before .before .before .before .before .before .before .before .before .args .t .now) .live (c .before .before .before .loop .c) ≡ false
-free-here c = not-true-false _ (λ e. omega (arith, c .before .dim .ensures, c .before .before .before .before .before .before .before .before .before .before .pre .0 .low _ e))
+free-here : (c : tie.Then1 Inv-loop μ-loop) →
+    let a = c .before .before .before .before .before .before .before .before .before .before in
+    cells (a .args .t .now) .live (c .before .before .before .loop .c) ≡ false
+free-here c =
+    let a = c .before .before .before .before .before .before .before .before .before .before in
+    not-true-false _ (λ e. omega (arith, c .before .dim .ensures, a .pre .0 .low _ e))
 
 size-requires : tie.Need-size-requires Inv-loop μ-loop
 size-requires c κs = search needs
@@ -53,7 +61,8 @@ loop-again c =
 reduce-row-requires : tie.Need-reduce-row-requires Inv-loop μ-loop
 reduce-row-requires c κs =
     let d = c .before .before .before in
-    (d .before .before .before .before .before .before .before .before .before .before .pre .0, (live-here d, (omega arith, progress-ready (d .before .before .before .loop .inv .4) (omega arith))))
+    let a = d .before .before .before .before .before .before .before .before .before .before in
+    (a .pre .0, (live-here d, (omega arith, progress-ready (d .before .before .before .loop .inv .4) (omega arith))))
 
 mul-additions : tie.Need-mul-additions Inv-loop μ-loop
 mul-additions c = search needs
@@ -65,7 +74,8 @@ add-additions : tie.Need-add-additions Inv-loop μ-loop
 add-additions c =
     let made = c .before .before .before .before .before .before .reduce-row in
     let d = c .before .before .before .before .before .before .before .before .before .before in
-    let fits = count-fits (d .before .before .before .loop .inv .4) (made .result) (omega (arith, d .before .before .before .before .before .before .before .before .before .before .pre .0 .room, d .before .before .loop-test .taken)) (made .ensures .few) in
+    let a = d .before .before .before .before .before .before .before .before .before .before in
+    let fits = count-fits (d .before .before .before .loop .inv .4) (made .result) (omega (arith, a .pre .0 .room, d .before .before .loop-test .taken)) (made .ensures .few) in
     search fits
 
 array-write-additions : tie.Need-array-write-additions Inv-loop μ-loop

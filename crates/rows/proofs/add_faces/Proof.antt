@@ -24,7 +24,9 @@ loop-holds : tie.Need-loop-holds Inv-loop μ-loop
 loop-holds c = (search needs, search needs, no-places _ _ _)
 
 -- place j is one of the cell's
-place-here : (c : tie.In-loop Inv-loop μ-loop) → c .before .loop .j < viewOf (c .before .before .before .before .before .args .t .now) .places (c .before .before .before .before .before .args .c)
+place-here : (c : tie.In-loop Inv-loop μ-loop) →
+    let a = c .before .before .before .before .before in
+    c .before .loop .j < viewOf (a .args .t .now) .places (a .args .c)
 place-here c = omega (arith, c .loop-test .taken, c .before .before .places .ensures)
 
 face-requires : tie.Need-face-requires Inv-loop μ-loop

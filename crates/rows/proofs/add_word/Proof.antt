@@ -29,19 +29,29 @@ shl-v : tie.Need-shl-v Inv-loop μ-loop
 shl-v c = c .lowest .ensures .inside
 
 -- the cell of the lowest bit that is left is live
-live-here : (c : tie.After-lowest Inv-loop μ-loop) → cells (c .before .before .before .before .before .args .t .now) .live (64 * c .before .before .before .before .before .args .w + c .lowest .result) ≡ true
+live-here : (c : tie.After-lowest Inv-loop μ-loop) →
+    let s = c .before .before .before .before .before in
+    cells (s .args .t .now) .live (64 * s .args .w + c .lowest .result) ≡ true
 live-here c =
     let a = c .before .before .before .before .before in
     left-live (cells (a .args .t .now)) (a .args .w) (a .args .word) (c .before .before .loop .v) (c .lowest .result) _ _
     (c .lowest .ensures .inside) (c .lowest .ensures .set) (c .before .before .loop .inv .2) (a .pre .1 .0)
 
 -- and so its number lies inside
-inside-here : (c : tie.After-lowest Inv-loop μ-loop) → 64 * c .before .before .before .before .before .args .w + c .lowest .result < cells (c .before .before .before .before .before .args .t .now) .size
-inside-here c = c .before .before .before .before .before .pre .0 .below _ (live-here c)
+inside-here : (c : tie.After-lowest Inv-loop μ-loop) →
+    let a = c .before .before .before .before .before in
+    64 * a .args .w + c .lowest .result < cells (a .args .t .now) .size
+inside-here c =
+    let a = c .before .before .before .before .before in
+    a .pre .0 .below _ (live-here c)
 
 -- and is small
-small-here : (c : tie.After-lowest Inv-loop μ-loop) → 64 * c .before .before .before .before .before .args .w + c .lowest .result < capacity
-small-here c = omega (arith, inside-here c, c .before .before .before .before .before .pre .0 .room)
+small-here : (c : tie.After-lowest Inv-loop μ-loop) →
+    let a = c .before .before .before .before .before in
+    64 * a .args .w + c .lowest .result < capacity
+small-here c =
+    let a = c .before .before .before .before .before in
+    omega (arith, inside-here c, a .pre .0 .room)
 
 mul-add-faces : tie.Need-mul-add-faces Inv-loop μ-loop
 mul-add-faces c = omega (arith, small-here c)

@@ -1,42 +1,58 @@
--- `sheet::is_sheet` meets its contract: without a level there is no live cell, and otherwise the counters decide.
+-- `sheet::is_sheet` meets its contract: without a level there is no live cell, a third wing says no, and otherwise the counters decide.
 -- Assumes nothing.
 use borrow.Author.Needs.{needs}
 use mathlib.Core.Path.{sym, _∙_}
+use borrow.Author.Tests.{not-true, not-false}
 use Rattle.sheet.proofs.Counters.{counted-none}
-use Rattle.sheet.proofs.Passing.{no-levels-no, sheet-by-counters}
+use Rattle.sheet.proofs.Passing.{no-levels-no, crowded-no, sheet-by-counters}
 use Rattle.sheet.proofs.is_sheet.Statement.{statement}
 use Rattle.sheet.proofs.is_sheet.Tie as tie
+
+levels-requires : tie.Need-levels-requires
+levels-requires c κs = search needs
+
+returns : tie.Need-returns
+returns c = let a = c .before in sym (no-levels-no (a .before .before .args .t .now) _ (a .levels .ensures) (c .if1 .taken))
 
 slice-aggregate-count-sides : tie.Need-slice-aggregate-count-sides
 slice-aggregate-count-sides c = search needs
 
 count-sides-requires : tie.Need-count-sides-requires
-count-sides-requires c κs = (c .before .before .pre, counted-none _ (c .before .before .pre .sized .room))
+count-sides-requires c κs =
+    let s = c .before .before .before .before in
+    (s .pre, counted-none _ _ (s .pre .sized .room))
 
-returns : tie.Need-returns
-returns c = sym (no-levels-no (c .before .before .before .before .before .args .t .now) _ (c .before .before .count-sides .ensures .0) (c .if1 .taken))
+returns-2 : tie.Need-returns-2
+returns-2 c =
+    let k = c .before .before in
+    let e = k .before .before in
+    let s = e .before .before .before in
+    sym (crowded-no (s .args .t .now) _ (s .pre) (e .before .levels .ensures) (e .if1 .left) (k .count-sides .ensures .1 (not-true (k .count-sides .result) (c .if2 .taken))))
 
 slice-aggregate-all-pass : tie.Need-slice-aggregate-all-pass
 slice-aggregate-all-pass c = search needs
 
 all-pass-requires : tie.Need-all-pass-requires
-all-pass-requires c κs = search needs
+all-pass-requires c κs = let k = c .before .before .before in k .count-sides .ensures .0 (not-false (k .count-sides .result) (c .before .if2 .left))
 
-returns-2 : tie.Need-returns-2
-returns-2 c =
-    let e = c .before .before in
-    let k = e .before .before in
-    let s = k .before .before .before in
+returns-3 : tie.Need-returns-3
+returns-3 c =
+    let q = c .before .before in
+    let k = q .before .before in
+    let e = k .before .before in
+    let s = e .before .before .before in
     c .all-pass .ensures
-    ∙ sheet-by-counters (s .args .t .now) _ _ (s .pre) (k .count-sides .ensures .1) (k .count-sides .ensures .0) (e .if1 .left)
+    ∙ sheet-by-counters (s .args .t .now) _ _ (s .pre) (k .count-sides .ensures .0 (not-false (k .count-sides .result) (q .if2 .left))) (e .before .levels .ensures) (e .if1 .left)
 
 pub is-sheet-spec : {M : Type 1} → statement M
 is-sheet-spec =
     tie.close
     (tie.spec
+    levels-requires
+    returns
     slice-aggregate-count-sides
     count-sides-requires
-    returns
+    returns-2
     slice-aggregate-all-pass
     all-pass-requires
-    returns-2)
+    returns-3)

@@ -15,16 +15,7 @@ returns-2 : tie.Need-returns-2
 returns-2 c = simp (le-ltb _ _ (c .before .if1 .left), eq-eqb _ _ (c .if2 .taken))
 
 returns-3 : tie.Need-returns-3
-returns-3 c = simp (le-ltb _ _ (c .before .before .if1 .left), ne-eqb _ _ (c .before .if2 .left), eq-eqb _ _ (c .if3 .taken))
-
-add-if4 : tie.Need-add-if4
-add-if4 c = search needs
-
-returns-4 : tie.Need-returns-4
-returns-4 c = simp (le-ltb _ _ (c .before .before .before .if1 .left), ne-eqb _ _ (c .before .before .if2 .left), ne-eqb _ _ (c .before .if3 .left), eq-eqb _ _ (c .if4 .taken))
-
-returns-5 : tie.Need-returns-5
-returns-5 c = simp (le-ltb _ _ (c .before .before .before .if1 .left), ne-eqb _ _ (c .before .before .if2 .left), ne-eqb _ _ (c .before .if3 .left), ne-eqb _ _ (c .if4 .left))
+returns-3 c = simp (le-ltb _ _ (c .before .if1 .left), ne-eqb _ _ (c .if2 .left))
 
 pub passes-spec : {M : Type 1} → statement M
-passes-spec = tie.close (tie.spec returns add-if2 returns-2 returns-3 add-if4 returns-4 returns-5)
+passes-spec = tie.close (tie.spec returns add-if2 returns-2 returns-3)

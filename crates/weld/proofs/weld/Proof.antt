@@ -3,13 +3,13 @@ use mathlib.Core.Path.{_≡_, sym, _∙_}
 use native.Mathlib.Omega.{arith}
 use Rattle.calls.specs.declared.Verdict.the-variants.{Accepted}
 use Rattle.weld.specs.Call.{weldVerdict}
-use Rattle.weld.proofs.Answers.{weld-accepted, ends-refused, ends-accepted}
+use Rattle.weld.proofs.Answers.{verdict-is, weld-accepted, ends-refused, ends-accepted}
 use borrow.Author.Needs.{needs}
 use Rattle.weld.proofs.weld.Statement.{statement}
 use Rattle.weld.proofs.weld.Tie as tie
 
-verdict-of-requires : tie.Need-verdict-of-requires
-verdict-of-requires c κs = search needs
+joinable-requires : tie.Need-joinable-requires
+joinable-requires c κs = search needs
 
 enum-known-found : tie.Need-enum-known-found
 enum-known-found c = search needs
@@ -22,7 +22,7 @@ abbrev asked : tie.After-enum-told → tie.Start
 asked c = c .before .before .before .before .before
 
 accepted : (c : tie.After-enum-told) → weldVerdict (asked c .args .t .now) (asked c .args .a) (asked c .args .b) ≡ Accepted
-accepted c = sym (c .before .before .verdict-of .ensures) ∙ c .enum-told .given .1
+accepted c = verdict-is _ _ _ ∙ sym (c .before .before .joinable .ensures) ∙ c .enum-told .given .1
 
 glue-requires : tie.Need-glue-requires
 glue-requires c κs = weld-accepted _ _ _ (accepted (c .before))
@@ -39,7 +39,7 @@ same-length-2 : tie.Need-same-length-2
 same-length-2 c = search needs
 
 returns-2 : tie.Need-returns-2
-returns-2 c = ends-refused _ _ _ _ (sym (c .before .before .before .verdict-of .ensures) ∙ c .before .found .given .1)
+returns-2 c = ends-refused _ _ _ _ (verdict-is _ _ _ ∙ sym (c .before .before .before .joinable .ensures) ∙ c .before .found .given .1)
 
 same-length-3 : tie.Need-same-length-3
 same-length-3 c = search needs
@@ -53,7 +53,7 @@ pub weld-spec : {M : Type 1} → statement M
 weld-spec =
     tie.close
     (tie.spec
-    verdict-of-requires
+    joinable-requires
     enum-known-found
     enum-told
     glue-requires

@@ -2,7 +2,7 @@
 use mathlib.Core.Path.{subst}
 use native.Mathlib.Omega.{arith}
 use borrow.Author.Needs.{needs}
-use Rattle.bitset.specs.Bits.{TopIs}
+use Rattle.bitset.specs.Bits.{LargestIs}
 use Rattle.cone.proofs.Searches.{none-marked, last-marked}
 use Rattle.cone.proofs.marks.marks_end.Statement.{statement}
 use Rattle.cone.proofs.marks.marks_end.Tie as tie
@@ -17,10 +17,10 @@ enum-known-last : tie.Need-enum-known-last
 enum-known-last c = search needs
 
 returns : tie.Need-returns
-returns c = none-marked _ (subst (TopIs _) (c .enum-told .given .1) (c .before .before .largest .ensures))
+returns c = none-marked _ (subst (LargestIs _) (c .enum-told .given .1) (c .before .before .largest .ensures))
 
 returns-2 : tie.Need-returns-2
-returns-2 c = last-marked _ _ (subst (TopIs _) (c .before .last .given .1) (c .before .before .before .largest .ensures))
+returns-2 c = last-marked _ _ (subst (LargestIs _) (c .before .last .given .1) (c .before .before .before .largest .ensures))
 
 add-result : tie.Need-add-result
 add-result c = omega (arith, returns-2 c .inside)

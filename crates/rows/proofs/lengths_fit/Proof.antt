@@ -3,9 +3,9 @@ use mathlib.Core.Path.{sym, _∙_}
 use native.Mathlib.Omega.{arith}
 use borrow.Author.Needs.{needs}
 use borrow.Author.Tests.{not-true, not-false}
-use Rattle.checker.proofs.Accepting.{no-table-fits, table-fits, product-small}
-use Rattle.checker.proofs.lengths_fit.Statement.{statement}
-use Rattle.checker.proofs.lengths_fit.Tie as tie
+use Rattle.rows.proofs.Lengths.{no-table-fits, table-fits, product-small}
+use Rattle.rows.proofs.lengths_fit.Statement.{statement}
+use Rattle.rows.proofs.lengths_fit.Tie as tie
 
 fits-requires : tie.Need-fits-requires
 fits-requires c κs = search needs

@@ -10,28 +10,28 @@ use native.Mathlib.Omega.{arith}
 use lib.Count.{leadingZeros, leading-top}
 use lib.ListN.{length, getD, List·getD-eq-default}
 use lib.Pow.{pow-mono}
-use Rattle.bitset.specs.Bits.{bits, digit, mark, IsGreatest, TopIs, sumOf}
-use Rattle.bitset.specs.declared.Top.{Top}
-use Rattle.bitset.specs.declared.Top.the-variants.{Nothing, Cell}
+use Rattle.bitset.specs.Bits.{bits, digit, mark, IsLargestIn, LargestIs, sumOf}
+use Rattle.bitset.specs.declared.LargestCell.{LargestCell}
+use Rattle.bitset.specs.declared.LargestCell.the-variants.{Nothing, Cell}
 use Rattle.bitset.proofs.Digits.{digit-past}
 use Rattle.bitset.proofs.Marks.{mark-at, mark-of-zero-word, mark-sum}
 
-pub greatest-unique : (ws : List ℕ) (m m′ : ℕ) → IsGreatest ws m → IsGreatest ws m′ → m ≡ m′
-greatest-unique ws m m′ top top′ = omega (arith, never m m′ top top′, never m′ m top′ top)
+pub largest-unique : (ws : List ℕ) (m m′ : ℕ) → IsLargestIn ws m → IsLargestIn ws m′ → m ≡ m′
+largest-unique ws m m′ top top′ = omega (arith, never m m′ top top′, never m′ m top′ top)
   where
-    never : (m m′ : ℕ) → IsGreatest ws m → IsGreatest ws m′ → ¬ (m < m′)
+    never : (m m′ : ℕ) → IsLargestIn ws m → IsLargestIn ws m′ → ¬ (m < m′)
     never m m′ top top′ h = omega (arith, top′ .in-set, top .above m′ h)
 
 -- Two sets with the same largest member: the sum has nothing from it on, so its own largest member, where it has one, is less.
-module _ (x y : List ℕ) (m : ℕ) (e : length x ≡ length y) (top : IsGreatest x m) (top′ : IsGreatest y m) where
-  pub sum-of-tops-empty : (s : ℕ) → m ≤ s → mark (sumOf x y) s ≡ 0
-  sum-of-tops-empty s h =
+module _ (x y : List ℕ) (m : ℕ) (e : length x ≡ length y) (top : IsLargestIn x m) (top′ : IsLargestIn y m) where
+  pub sum-from-largest-empty : (s : ℕ) → m ≤ s → mark (sumOf x y) s ≡ 0
+  sum-from-largest-empty s h =
       by-cases (ℕ-discrete s m)
       (λ same. ap (mark (sumOf x y)) same ∙ mark-sum x y e m ∙ omega (arith, top .in-set, top′ .in-set))
       (λ apart. mark-sum x y e s ∙ omega (arith, top .above s (omega arith), top′ .above s (omega arith)))
 
 -- the top digit of a number of j + 1 digits
-pub digit-top : (n j : ℕ) → 2 ^ j ≤ n → n < 2 ^ suc j → digit n j ≡ 1
+digit-top : (n j : ℕ) → 2 ^ j ≤ n → n < 2 ^ suc j → digit n j ≡ 1
 unfolding digit
 digit-top n j low high =
     let one : n / 2 ^ j ≡ 1 = div-eq-of-lt-le (2 ^ j) (rw one-mul low) (subst (λ (x : ℕ). n < x) (two-pow-succ j ∙ sym (two-mul (2 ^ j))) high) in
@@ -39,9 +39,9 @@ digit-top n j low high =
 
 -- word w is the last that is not 0, and j its top bit
 module _ (ws : List ℕ) (w j : ℕ) (inside : w < length ws) (bit : j < bits) where
-  pub top-bit-is-greatest : 2 ^ j ≤ getD ws w 0 → getD ws w 0 < 2 ^ suc j → ((k : ℕ) → w < k → getD ws k 0 ≡ 0) → IsGreatest ws (bits * w + j)
+  pub top-bit-is-largest : 2 ^ j ≤ getD ws w 0 → getD ws w 0 < 2 ^ suc j → ((k : ℕ) → w < k → getD ws k 0 ≡ 0) → IsLargestIn ws (bits * w + j)
   unfolding mark
-  top-bit-is-greatest low high none = record {
+  top-bit-is-largest low high none = record {
     inside = omega arith;
     in-set = mark-at ws w j bit ∙ digit-top (getD ws w 0) j low high;
     above = λ s h. by-cases (ℕ-discrete (s / bits) w) (beside s h) (λ apart. mark-of-zero-word ws s (none (s / bits) (omega arith)));
@@ -59,16 +59,16 @@ leading-inside v p h =
     omega arith
 
 -- the largest member by the zeros above the top bit of word w
-pub leading-is-greatest : (ws : List ℕ) (w : ℕ) → w < length ws → 0 < getD ws w 0 → getD ws w 0 < 2 ^ 64 → ((k : ℕ) → w < k → getD ws k 0 ≡ 0)
-    → IsGreatest ws (bits * w + (63 - leadingZeros 64 (getD ws w 0)))
-leading-is-greatest ws w inside p h none = at (leading-top 64 (getD ws w 0) p h)
+pub leading-is-largest : (ws : List ℕ) (w : ℕ) → w < length ws → 0 < getD ws w 0 → getD ws w 0 < 2 ^ 64 → ((k : ℕ) → w < k → getD ws k 0 ≡ 0)
+    → IsLargestIn ws (bits * w + (63 - leadingZeros 64 (getD ws w 0)))
+leading-is-largest ws w inside p h none = at (leading-top 64 (getD ws w 0) p h)
   where
     at : (j : ℕ) × (leadingZeros 64 (getD ws w 0) + suc j ≡ 64) × (2 ^ j ≤ getD ws w 0) × (getD ws w 0 < 2 ^ suc j)
-        → IsGreatest ws (bits * w + (63 - leadingZeros 64 (getD ws w 0)))
+        → IsLargestIn ws (bits * w + (63 - leadingZeros 64 (getD ws w 0)))
     at t =
         let place : t .0 ≡ 63 - leadingZeros 64 (getD ws w 0) = omega arith in
-        let top : IsGreatest ws (bits * w + t .0) = top-bit-is-greatest ws w (t .0) inside (omega arith) (t .2) (t .3) none in
-        subst (λ (j : ℕ). IsGreatest ws (bits * w + j)) place top
+        let top : IsLargestIn ws (bits * w + t .0) = top-bit-is-largest ws w (t .0) inside (omega arith) (t .2) (t .3) none in
+        subst (λ (j : ℕ). IsLargestIn ws (bits * w + j)) place top
 
 -- ---- words that are 0 from w on
 

@@ -1,0 +1,98 @@
+-- `sheet::mark_faces` meets its contract. The invariant: the counters are those of the cells below c and of its places below j, and as
+-- many as they were. The measure: what is left of the places. Assumes nothing.
+use borrow.Author.Needs.{needs}
+use mathlib.Core.Path.{_≡_, refl, ap, _∙_}
+use Prim.Native.Nat.{_+_, _-_, _≤_, _<_}
+use native.Mathlib.Omega.{arith}
+use lib.ListN.{length}
+use Rattle.table.specs.Kind.{used as usedOf}
+use Rattle.table.specs.Table.{dim, Live}
+use Rattle.sheet.proofs.Counters.{Counting, counting-starts, mark-turn, counting-ends, face-lives, face-below}
+use Rattle.sheet.proofs.mark_faces.Statement.{statement}
+use Rattle.sheet.proofs.mark_faces.Tie as tie
+
+abbrev Inv-loop : tie.InvT-loop
+Inv-loop t c l sides₀ used j₀ sides j = (j ≤ used) × ((length sides ≡ length sides₀) × (Counting t sides l c j))
+
+abbrev μ-loop : tie.MeasureT-loop
+μ-loop t c l sides₀ used j₀ sides j = used - j
+
+dim-requires : tie.Need-dim-requires Inv-loop μ-loop
+dim-requires c κs = search needs
+
+used-requires : tie.Need-used-requires Inv-loop μ-loop
+used-requires c κs = search needs
+
+loop-holds : tie.Need-loop-holds Inv-loop μ-loop
+loop-holds c = (omega arith, (refl, counting-starts _ _ _ _ (c .before .before .before .before .pre .2)))
+
+face-requires : tie.Need-face-requires Inv-loop μ-loop
+face-requires c κs = search needs
+
+cast-f : tie.Need-cast-f Inv-loop μ-loop
+cast-f c = search needs
+
+mul-sides : tie.Need-mul-sides Inv-loop μ-loop
+mul-sides c = search needs
+
+-- what the function was asked, seen from its loop
+abbrev asked : tie.At-loop Inv-loop μ-loop → tie.Start Inv-loop μ-loop
+asked l = l .before .before .before .before .before
+
+-- the places are those of the cell, and a face that is read is a live cell one dimension down
+places : (c : tie.After-used Inv-loop μ-loop) → c .used .result ≡ usedOf (dim (c .before .before .before .before .args .t .now) (c .before .before .before .before .args .c))
+places c = c .used .ensures .0 ∙ ap usedOf (c .before .dim .ensures)
+
+module _ (c : tie.After-face Inv-loop μ-loop) where
+  abbrev start : tie.Start Inv-loop μ-loop
+  start = asked (c .before .before)
+
+  at-place : c .before .before .loop .j < usedOf (dim (start .args .t .now) (start .args .c))
+  at-place = omega (arith, c .before .loop-test .taken, places (c .before .before .before))
+
+  lives : Live (start .args .t .now) (c .face .result)
+  lives = face-lives _ (start .pre .0) _ _ _ (start .pre .1) at-place (c .face .ensures)
+
+  below : dim (start .args .t .now) (c .face .result) + 1 ≡ dim (start .args .t .now) (start .args .c)
+  below = face-below _ (start .pre .0) _ _ _ (start .pre .1) at-place (c .face .ensures)
+
+slice-write-sides : tie.Need-slice-write-sides Inv-loop μ-loop
+slice-write-sides c = omega (arith, lives c .inside, c .before .before .loop .inv .1 .1 .room)
+
+add-j : tie.Need-add-j Inv-loop μ-loop
+add-j c = search needs
+
+loop-less : tie.Need-loop-less Inv-loop μ-loop
+loop-less c = search needs
+
+loop-again : tie.Need-loop-again Inv-loop μ-loop
+loop-again c =
+    let l = c .before .before in
+    let i = l .loop .inv .1 in
+    let s = asked l in
+    (omega arith, mark-turn _ _ _ _ _ _ (i .1) (c .face .ensures) (lives c .inside) (s .args .sides .now) (i .0) (λ e. s .pre .3 (omega (arith, below c))))
+
+same-length : tie.Need-same-length Inv-loop μ-loop
+same-length c = search needs
+
+returns : tie.Need-returns Inv-loop μ-loop
+returns c = counting-ends _ _ _ _ _ (c .before .loop .inv .1 .1) (omega (arith, c .before .loop .inv .0, c .loop-test .left, places (c .before .before)))
+
+pub mark-faces-spec : {M : Type 1} → statement M
+mark-faces-spec =
+    tie.close
+    (tie.spec
+    Inv-loop
+    μ-loop
+    dim-requires
+    used-requires
+    loop-holds
+    face-requires
+    cast-f
+    mul-sides
+    slice-write-sides
+    add-j
+    loop-less
+    loop-again
+    same-length
+    returns)
