@@ -2,8 +2,8 @@
 -- What carries it: each word of the corners and of the padding, by its place. Assumes nothing.
 use mathlib.Core.Path.{_≡_, refl, sym, ap, _∙_}
 use mathlib.Core.Logic.{⊎-elim}
-use mathlib.Core.List.{List, [], _∷_, _++_}
-use Prim.Native.Nat.{ℕ, zero, suc, _+_, _-_, _≤_, _<_}
+use mathlib.Core.List.{List, _++_}
+use Prim.Native.Nat.{ℕ, suc, _+_, _-_, _≤_, _<_}
 use native.Mathlib.Omega.{arith}
 use lib.ListN.{length, getD, set, replicate, length-append, length-replicate, getD-replicate, length-set, List·getD-append}
 use lib.Seq.{ext-getD, getD-set-same, getD-set-other, getD-append-add}
@@ -76,7 +76,9 @@ facet-packs p j ws r σ q some place w =
     record {
       count = omega (arith, q .count, shorter);
       few = omega (arith, q .few, shorter);
-      words = ext-getD 0 r (padded (without j σ)) (w .long ∙ sym (padded-length (without j σ) (omega (arith, q .few, shorter)))) (λ k h. at k (omega (arith, h, w .long)));
+      words =
+          ext-getD 0 r (padded (without j σ)) (w .long ∙ sym (padded-length (without j σ) (omega (arith, q .few, shorter))))
+          (λ k h. at k (omega (arith, h, w .long)));
     }
   where
     shorter : suc (length (without j σ)) ≡ length σ

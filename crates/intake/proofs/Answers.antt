@@ -3,20 +3,20 @@
 use mathlib.Core.Path.{_≡_, refl, sym, ap, ap₂, subst, _∙_}
 use mathlib.Core.Bool.{Bool, true, false, _&&_, not}
 use mathlib.Core.List.{List, [], _∷_}
-use Prim.Native.Nat.{ℕ, _*_, _/_, _%_, _≤_, _<_}
+use Prim.Native.Nat.{ℕ, _/_, _%_, _≤_, _<_}
 use native.Mathlib.Omega.{arith}
 use borrow.Author.Tests.{not-false, lt-ltb, le-ltb}
-use lib.ListN.{length, replicate, length-replicate}
+use lib.ListN.{length, replicate}
 use lib.Dec.{eqb, leb, ltb}
 use Rattle.counting.specs.Counting.{pick}
-use Rattle.calls.specs.Calls.{Ground, verdict, Ends}
+use Rattle.calls.specs.Calls.{Ends}
 use Rattle.calls.specs.declared.Refusal.{Refusal}
 use Rattle.calls.specs.declared.Refusal.the-variants.{Length, BadText, BadIndex, NoRoom}
 use Rattle.calls.specs.declared.Verdict.{Verdict}
 use Rattle.calls.specs.declared.Verdict.the-variants.{Accepted, Refused}
 use Rattle.calls.proofs.Grounds.{accepted-none-applies}
 use Rattle.table.specs.Kind.{capacity, width, freeMark}
-use Rattle.table.specs.Table.{cellsOf, Sized, sized, onLength}
+use Rattle.table.specs.Table.{cellsOf, sized, onLength}
 use Rattle.table.specs.Records.{freeRecord, recordAt, Alike}
 use Rattle.table.proofs.Sizes.{sized-is-sized}
 use Rattle.table.proofs.Words.{one-dim, one-face}

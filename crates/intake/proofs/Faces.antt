@@ -1,15 +1,15 @@
 -- The corners of each cell give way to its faces: the facets' numbers, and the table on the way.
 -- What carries it: a facet stands before its cell, so its number is found among the records that still hold corners. Assumes nothing.
 use mathlib.Core.Path.{_≡_, refl, sym, ap, subst, _∙_}
-use mathlib.Core.Logic.{_⊎_, inl, inr, ⊎-elim}
+use mathlib.Core.Logic.{_⊎_, ⊎-elim}
 use mathlib.Core.List.{List, [], _∷_, List·Memᴰ as In}
-use Prim.Native.Nat.{ℕ, zero, suc, _+_, _-_, _*_, _≤_, _<_}
+use Prim.Native.Nat.{ℕ, zero, suc, _+_, _-_, _≤_, _<_}
 use native.Mathlib.Omega.{arith}
 use lib.ListN.{length, getD, set, take, replicate, length-set, getD-replicate}
 use lib.Seq.{take-all, getD-take, length-take-le, getD-set-same, getD-set-other}
 use Rattle.counting.proofs.Cases.{below-or-not, same-or-not, same-or-other}
-use Rattle.table.specs.Kind.{top, faces, width, freeMark, used}
-use Rattle.table.specs.Table.{cellsOf, dim, face, facesOf}
+use Rattle.table.specs.Kind.{faces, freeMark, used}
+use Rattle.table.specs.Table.{dim, face, facesOf}
 use Rattle.table.specs.Records.{recordAt, freeRecord, tableOf, Alike, Stored}
 use Rattle.table.proofs.Stores.{alike-then, alike-back}
 use Rattle.table.proofs.Words.{length-tableOf, record-tableOf, table-by-records}
@@ -19,7 +19,6 @@ use Rattle.partlist.specs.ListTable.{without, numberIn, cornersAt, dimAt, faceA
 use Rattle.partlist.specs.Sweep.{Complete}
 use Rattle.partlist.proofs.Sorting.{entry-in, entries-sorted, sorted-take}
 use Rattle.partlist.proofs.Dictionary.{cells-tell}
-use Rattle.partlist.proofs.Without.{without-length}
 use Rattle.partlist.proofs.Sweep.{facet-earlier}
 use Rattle.partlist.proofs.ListTable.{Numbered, number-tells, UsedPlace, used-says, dim-live, dim-free, face-used, face-unused}
 use Rattle.corners.specs.Scratch.{Packs, Holds, Kept, NumberIs, WithoutPlace}
@@ -36,7 +35,8 @@ module _ (cs : List (List ℕ)) (sorted : Sorted Earlier cs) where
       ⊎-elim
       (λ h. absurd (cells-tell .apart (cornersAt cs d) (subst (λ (x : List ℕ). Earlier x (cornersAt cs d)) e (entries-sorted Earlier cs c d [] sorted h hd))))
       (λ h. ⊎-elim
-      (λ k. absurd (cells-tell .apart (cornersAt cs c) (subst (λ (x : List ℕ). Earlier x (cornersAt cs c)) (sym e) (entries-sorted Earlier cs d c [] sorted k hc))))
+      (λ k. absurd (cells-tell .apart (cornersAt cs c)
+      (subst (λ (x : List ℕ). Earlier x (cornersAt cs c)) (sym e) (entries-sorted Earlier cs d c [] sorted k hc))))
       (λ k. omega arith)
       (below-or-not d c))
       (below-or-not c d)
@@ -118,7 +118,8 @@ module _ (t : List ℕ) (c p : ℕ) (ws : List ℕ) where
         u = used-says p j place
 
         face :
-            (cs : List (List ℕ)) → Complete cs → Sorted Earlier cs → c < length cs → Holds t (take c cs) → Packs p ws (cornersAt cs c) → r ≡ faceAt cs c j
+            (cs :
+            List (List ℕ)) → Complete cs → Sorted Earlier cs → c < length cs → Holds t (take c cs) → Packs p ws (cornersAt cs c) → r ≡ faceAt cs c j
         face cs k o h v q =
             let two : 2 ≤ length (cornersAt cs c) = omega (arith, u .some, q .count) in
             let inside : j < length (cornersAt cs c) = omega (arith, u .place, q .count) in
@@ -209,7 +210,9 @@ module _ (room : ℕ) (t₀ : List ℕ) (m : ℕ) (t : List ℕ) (c : ℕ) (s : 
                       packs-alike (a .same-dim) (same-record t′ d t d a) refl (held .records d l);
                   sorted = held .sorted;
                 };
-            upper = λ d l r. same-or-other (λ (x : ℕ). Alike (recordAt t′ x) (cellAt cs x)) d (c - 1) here (λ ne. alike-then (st .else d ne) (f .upper d (omega (arith, l, ne)) r));
+            upper =
+                λ d l r. same-or-other (λ (x : ℕ). Alike (recordAt t′ x) (cellAt cs x)) d (c - 1) here
+                (λ ne. alike-then (st .else d ne) (f .upper d (omega (arith, l, ne)) r));
           }
         where
           inside : c - 1 < length cs

@@ -15,11 +15,11 @@ use Rattle.partlist.specs.Sweep.{putAt, Fitting, Swept, Sweeping, InRange}
 use Rattle.partlist.proofs.Sweep.{gathered-most, sweep-start, sweep-entry, sweep-found, sweep-next, sweep-low, sweep-put, facet-moves}
 use Rattle.partlist.proofs.Swept.{sweep-done}
 use Rattle.partlist.proofs.Placing.{put-length}
-use Rattle.partlist.proofs.ListTable.{UsedPlace, used-says}
+use Rattle.partlist.proofs.ListTable.{used-says}
 use Rattle.corners.specs.Scratch.{Packs, Kept, Taken, Joined, TakesIn, WithoutPlace}
 use Rattle.corners.specs.Scratch.Joined.{there, put}
 use Rattle.corners.proofs.Removing.{facet-packs}
-use Rattle.intake.specs.Steps.{Gathering, SweptTo, SweepsCell, Listing, Sweeps}
+use Rattle.intake.specs.Steps.{Gathering, SweptTo, SweepsCell, Sweeps}
 
 -- ---- one cell
 
@@ -150,7 +150,9 @@ module _ (room : ℕ) (t₀ : List ℕ) (c₀ m₀ p : ℕ) (ws : List ℕ) (sam
                 cells = v .cells;
                 count = v .count;
                 kept = v .kept;
-                swept = sweep-next n ls (v .cells) (c₀ + (m - m₀)) j (v .sweeping) (omega (arith, h, used-all p two (q .count) (q .few), q .count, ap length (v .corners)));
+                swept =
+                    sweep-next n ls (v .cells) (c₀ + (m - m₀)) j (v .sweeping)
+                    (omega (arith, h, used-all p two (q .count) (q .few), q .count, ap length (v .corners)));
               };
           full = λ n ls range w k. absurd (omega (arith, k, s .most));
         }
@@ -169,13 +171,17 @@ facets-low room t c m p e low h =
             cells = w .cells;
             count = w .count;
             kept = w .kept;
-            swept = subst (Swept n ls (w .cells)) z (sweep-low n ls (w .cells) c range (w .swept) (omega (arith, w .kept .holds .records c (w .swept .inside) .count, e)));
+            swept =
+                subst (Swept n ls (w .cells)) z (sweep-low n ls (w .cells) c range (w .swept)
+                (omega (arith, w .kept .holds .records c (w .swept .inside) .count, e)));
           };
       full = λ n ls range w k. absurd (omega (arith, k, h));
     }
 
 -- tables of one length have the same room
-pub same-room : (t₀ : List ℕ) {t t′ : List ℕ} {c m r : ℕ} → length t ≡ length t₀ → SweepsCell (cellsOf t) t t′ c m r → SweepsCell (cellsOf t₀) t t′ c m r
+pub same-room :
+    (t₀ : List ℕ) {t t′ : List ℕ} {c m r : ℕ} → length t ≡ length t₀ → SweepsCell (cellsOf t) t t′ c m r →
+    SweepsCell (cellsOf t₀) t t′ c m r
 same-room t₀ {t} {t′} {c} {m} {r} e s = subst (λ (x : ℕ). SweepsCell (x / width) t t′ c m r) e s
 
 -- ---- all cells
@@ -192,7 +198,12 @@ cells-none room t m h =
       inside = omega arith;
       most = h;
       reached = λ n ls range g.
-          record { cells = g .cells; count = g .count; kept = g .kept; swept = subst (Swept n ls (g .cells)) (g .count) (sweep-start n ls (g .cells) (g .gathered)) };
+          record {
+            cells = g .cells;
+            count = g .count;
+            kept = g .kept;
+            swept = subst (Swept n ls (g .cells)) (g .count) (sweep-start n ls (g .cells) (g .gathered));
+          };
     }
 
 module _ (room : ℕ) (t₀ : List ℕ) (m₀ : ℕ) (t : List ℕ) (m c : ℕ) (s : CellsTo room t₀ m₀ t m c) where

@@ -1,15 +1,13 @@
 -- The lines, taken in one after the other: the state between two lines, a line that is taken in, and the end.
 -- What carries it: the lines passed are the first ones of the reading, and each one's cell is a cell of the list. Assumes nothing.
-use mathlib.Core.Path.{_≡_, refl, sym, ap, subst, _∙_}
-use mathlib.Core.Bool.{Bool, true, false, _&&_}
+use mathlib.Core.Path.{_≡_, refl, sym, ap, subst}
+use mathlib.Core.Bool.{true, _&&_}
 use mathlib.Core.List.{List, [], _∷_, _++_}
-use mathlib.Core.Logic.{_⊎_, inl, inr, ⊎-elim}
-use Prim.Native.Nat.{ℕ, suc, _+_, _≤_, _<_}
+use Prim.Native.Nat.{ℕ, _+_, _≤_, _<_}
 use native.Mathlib.Omega.{arith}
-use lib.ListN.{length, take, drop}
-use Rattle.counting.proofs.Cases.{below-or-not, same-or-not}
-use Rattle.table.specs.Kind.{capacity, faces, freeMark}
-use Rattle.partlist.specs.Text.{IsLine, IsList}
+use lib.ListN.{length}
+use Rattle.table.specs.Kind.{capacity, freeMark}
+use Rattle.partlist.specs.Text.{IsLine}
 use Rattle.partlist.specs.Indices.{lineFits, Fit}
 use Rattle.partlist.specs.Sorting.{comparedNumbers, sortedUp}
 use Rattle.partlist.specs.Cells.{cellList}
@@ -23,7 +21,7 @@ use Rattle.lines.specs.declared.Line.{Line}
 use Rattle.lines.proofs.Wholes.{Onto, onto-first, onto-more, onto-fits, onto-part, line-there, all-read}
 use Rattle.corners.specs.Scratch.{Kept, Taken, Joined}
 use Rattle.corners.specs.Scratch.Joined.{there, put}
-use Rattle.intake.specs.Steps.{TakesLine, Gathering, Gathers}
+use Rattle.intake.specs.Steps.{TakesLine, Gathers}
 
 -- the lines up to the place `at` are passed, and the table holds m cells that have them
 pub record Reached (text : List ℕ) (n room : ℕ) (t : List ℕ) (at m : ℕ) : Type 0 where
@@ -33,7 +31,8 @@ pub record Reached (text : List ℕ) (n room : ℕ) (t : List ℕ) (at m : ℕ) 
   pub kept : Kept room t cells
   pub gathered : Gathered n (onto .passed) cells
 
-pub reached-none : (text : List ℕ) (n room : ℕ) (t : List ℕ) (at : ℕ) → Opens text n at → Kept room t (pointsFrom 0 n) → Reached text n room t at n
+pub reached-none :
+    (text : List ℕ) (n room : ℕ) (t : List ℕ) (at : ℕ) → Opens text n at → Kept room t (pointsFrom 0 n) → Reached text n room t at n
 unfolding onto-first
 reached-none text n room t at o k =
     record {
@@ -46,7 +45,8 @@ reached-none text n room t at o k =
 
 -- the cell of a line among the cells
 joined-gathered :
-    (n : ℕ) (ls : List (List ℕ)) (l : List ℕ) (cs cs′ : List (List ℕ)) → Gathered n ls cs → IsLine l → Joined cs (sortedUp comparedNumbers l) cs′ →
+    (n :
+    ℕ) (ls : List (List ℕ)) (l : List ℕ) (cs cs′ : List (List ℕ)) → Gathered n ls cs → IsLine l → Joined cs (sortedUp comparedNumbers l) cs′ →
     Gathered n (ls ++ (l ∷ [])) cs′
 joined-gathered n ls l cs cs′ g h (there i) = gather-found n ls l cs g i
 joined-gathered n ls l cs cs′ g h (put k fit) = gather-put n ls l cs k g h fit

@@ -3,15 +3,13 @@
 use mathlib.Core.Path.{_≡_, refl, sym, ap, ap₂, subst, _∙_}
 use mathlib.Core.Bool.{Bool, true, false, not, false≢true}
 use mathlib.Core.Logic.{_↔_}
-use mathlib.Core.List.{List, [], _∷_}
+use mathlib.Core.List.{List}
 use Prim.Native.Nat.{ℕ, _≤_, _<_}
 use native.Mathlib.Omega.{arith}
 use borrow.Author.Tests.{not-false, ltb-true, ltb-false, lt-ltb}
 use lib.ListN.{length}
 use lib.Dec.{ltb}
 use Rattle.counting.specs.Counting.{pick}
-use Rattle.calls.specs.Calls.{verdict}
-use Rattle.calls.specs.declared.Refusal.{Refusal}
 use Rattle.calls.specs.declared.Refusal.the-variants.{Length, BadText, BadIndex, NoRoom}
 use Rattle.calls.specs.declared.Verdict.{Verdict}
 use Rattle.calls.specs.declared.Verdict.the-variants.{Accepted, Refused}
@@ -28,7 +26,7 @@ use Rattle.partlist.proofs.Reading.{reading-unique}
 use Rattle.partlist.proofs.Indices.{fits-range}
 use Rattle.partlist.proofs.Described.{table-of-list}
 use Rattle.lines.proofs.Decision.{reading}
-use Rattle.intake.specs.Import.{isList, indicesFit, cellsIn, groundsBy, verdictBy, leavesBy, importVerdict, importLeaves}
+use Rattle.intake.specs.Import.{groundsBy, verdictBy, leavesBy, importVerdict, importLeaves}
 
 -- ---- the verdict by a reading
 
@@ -63,9 +61,15 @@ module _ (t text : List ℕ) where
   module _ (s : sized t ≡ true) where
     -- 17 exactly where the text is no part list
     pub malformed-iff-no-list : (importVerdict t text ≡ Refused BadText) ↔ NoList text
-    malformed-iff-no-list = (λ e n ls h. not-text (listFits n ls) (ltb (cellsOf t) (length (cellList n ls))) (sym (by-here n ls h) ∙ e), λ bad. by-none bad ∙ rw s refl)
+    malformed-iff-no-list = (
+      λ e n ls h. not-text (listFits n ls) (ltb (cellsOf t) (length (cellList n ls))) (sym (by-here n ls h) ∙ e),
+      λ bad. by-none bad
+          ∙ rw s refl,
+    )
       where
-        by-here : (n : ℕ) (ls : List (List ℕ)) → IsList text n ls → importVerdict t text ≡ said true true (listFits n ls) (ltb (cellsOf t) (length (cellList n ls)))
+        by-here :
+            (n : ℕ) (ls : List (List ℕ)) → IsList text n ls →
+            importVerdict t text ≡ said true true (listFits n ls) (ltb (cellsOf t) (length (cellList n ls)))
         by-here n ls h = by-list n ls h ∙ ap (λ a. said a true (listFits n ls) (ltb (cellsOf t) (length (cellList n ls)))) s
 
         not-text : (c d : Bool) → said true true c d ≡ Refused BadText → ⊥
@@ -79,7 +83,11 @@ module _ (t text : List ℕ) where
 
       -- then 18 exactly where an index does not fit
       pub unfit-iff-index : (importVerdict t text ≡ Refused BadIndex) ↔ (listFits n ls ≡ false)
-      unfit-iff-index = (λ e. was (listFits n ls) (ltb (cellsOf t) (length (cellList n ls))) (sym here ∙ e), λ e. here ∙ ap (λ c. said true true c (ltb (cellsOf t) (length (cellList n ls)))) e)
+      unfit-iff-index = (
+        λ e. was (listFits n ls) (ltb (cellsOf t) (length (cellList n ls))) (sym here ∙ e),
+        λ e. here ∙ ap
+            (λ c. said true true c (ltb (cellsOf t) (length (cellList n ls)))) e,
+      )
         where
           was : (c d : Bool) → said true true c d ≡ Refused BadIndex → c ≡ false
           was true true e = absurd (let z : _≡_ {A = ℕ} 0 1 = cc in omega arith)
@@ -88,8 +96,11 @@ module _ (t text : List ℕ) where
 
       -- then 9 exactly where there are more cells than records
       pub full-iff-cells : listFits n ls ≡ true → (importVerdict t text ≡ Refused NoRoom) ↔ (cellsOf t < length (cellList n ls))
-      full-iff-cells fit =
-          (λ e. ltb-true (cellsOf t) (length (cellList n ls)) (was (ltb (cellsOf t) (length (cellList n ls))) (sym known ∙ e)), λ l. known ∙ ap (said true true true) (lt-ltb (cellsOf t) (length (cellList n ls)) l))
+      full-iff-cells fit = (
+        λ e. ltb-true (cellsOf t) (length (cellList n ls)) (was (ltb (cellsOf t) (length (cellList n ls))) (sym known ∙ e)),
+        λ l. known
+            ∙ ap (said true true true) (lt-ltb (cellsOf t) (length (cellList n ls)) l),
+      )
         where
           known : importVerdict t text ≡ said true true true (ltb (cellsOf t) (length (cellList n ls)))
           known = here ∙ ap (λ c. said true true c (ltb (cellsOf t) (length (cellList n ls)))) fit
@@ -129,11 +140,13 @@ module _ (t text : List ℕ) where
           }
 
   -- what is left is the table of the list that the text reads as
-  pub accepted-table-of-list : importVerdict t text ≡ Accepted → (n : ℕ) (ls : List (List ℕ)) → IsList text n ls → TableOfList n ls (importLeaves t text)
+  pub accepted-table-of-list :
+      importVerdict t text ≡ Accepted → (n : ℕ) (ls : List (List ℕ)) → IsList text n ls → TableOfList n ls (importLeaves t text)
   accepted-table-of-list e n ls h =
       let a = accepted-list e in
       let u = reading-unique text (a .count) n (a .lines) ls (a .is-list) h in
-      let w = table-of-list (a .count) (a .lines) (a .is-list .lines) (fits-range (a .count) (a .lines) (a .fits)) (cellsOf t) (a .size .some) (a .size .room) (a .room) in
+      let w = table-of-list (a .count) (a .lines) (a .is-list .lines) (fits-range (a .count) (a .lines) (a .fits)) (cellsOf t)
+      (a .size .some) (a .size .room) (a .room) in
       subst (λ (x : List ℕ). TableOfList n ls x) (sym (a .table)) (moved (u .0) (u .1) w)
     where
       moved : {m n : ℕ} {ms ls : List (List ℕ)} {u : List ℕ} → m ≡ n → ms ≡ ls → TableOfList m ms u → TableOfList n ls u

@@ -1,7 +1,7 @@
 -- Every text reads as a part list or as none.
 -- What carries it: the text is gone through from the front, number by number and line by line, by the laws that the scanner's
 -- functions use; each step leaves less of it. Assumes nothing.
-use mathlib.Core.Path.{_≡_, refl, sym}
+use mathlib.Core.Path.{_≡_, refl}
 use mathlib.Core.Bool.{Bool, true, _&&_}
 use mathlib.Core.Logic.{_⊎_, inl, inr, ⊎-elim}
 use mathlib.Core.List.{List, [], _∷_, _++_}
@@ -9,7 +9,7 @@ use Prim.Native.Nat.{ℕ, zero, suc, _+_, _-_, _*_, _≤_, _<_}
 use native.Mathlib.Omega.{arith}
 use lib.ListN.{length, getD, drop, length-append}
 use Rattle.counting.proofs.Cases.{below-or-not, same-or-not}
-use Rattle.partlist.specs.Text.{newline, space, digitZero, mostDigits, longestLine, IsList, NoList, Reading, Digit}
+use Rattle.partlist.specs.Text.{newline, space, digitZero, mostDigits, longestLine, Reading, Digit}
 use Rattle.partlist.specs.Text.Reading.{list, none}
 use Rattle.partlist.specs.Indices.{lineFits}
 use Rattle.lines.specs.Scans.{DigitIs, ReadsNumber, NoNumber, ReadsLine, NoLine, Opens}
@@ -76,7 +76,9 @@ data LineThere (text : List ℕ) (at : ℕ) : Type 0 where
   line : (l : List ℕ) (i : ℕ) → ReadsLine text at l i → LineThere text at
   no-line : NoLine (drop at text) → LineThere text at
 
-module _ (text : List ℕ) (at : ℕ) (xs : List ℕ) (i : ℕ) (led : Led text at xs i) (few : length xs < longestLine) (on : (v m : ℕ) → Led text at (xs ++ (v ∷ [])) (m + 1) → LineThere text at) where
+module _
+    (text : List ℕ) (at : ℕ) (xs : List ℕ) (i : ℕ) (led : Led text at xs i) (few : length xs < longestLine)
+    (on : (v m : ℕ) → Led text at (xs ++ (v ∷ [])) (m + 1) → LineThere text at) where
   -- a number, and the byte behind it
   after-number : NumberThere text i → LineThere text at
   after-number (no-number bad) = no-line (none-number text at xs i led bad)
@@ -105,7 +107,9 @@ line-there text at h = line-from text at longestLine [] at (led-none text at h) 
 
 -- ---- the whole text
 
-module _ (text : List ℕ) (n at : ℕ) (fit : Bool) (o : Onto text n at fit) (h : at < length text) (on : (i : ℕ) (b : Bool) → at < i → Onto text n i b → Reading text) where
+module _
+    (text : List ℕ) (n at : ℕ) (fit : Bool) (o : Onto text n at fit) (h : at < length text)
+    (on : (i : ℕ) (b : Bool) → at < i → Onto text n i b → Reading text) where
   after-line : LineThere text at → Reading text
   after-line (no-line bad) = none (line-missing text n at fit o h bad)
   after-line (line l i r) = on i (fit && lineFits n l) (r .onward) (onto-more text n at fit o l i (lineFits n l) r refl)

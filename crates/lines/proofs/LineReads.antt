@@ -1,13 +1,13 @@
 -- A line that is read number by number: the state on the way, the end, and the ways in which no line stands there.
 -- What carries it: each number passed stands before a space, so it is a number of any line that stands there. Assumes nothing.
 use mathlib.Core.Path.{_≡_, refl, sym, ap, ap₂, subst, _∙_}
-use mathlib.Core.List.{List, [], _∷_, _++_, append-assoc, append-nil}
-use Prim.Native.Nat.{ℕ, zero, suc, _+_, _≤_, _<_}
+use mathlib.Core.List.{List, [], _∷_, _++_, append-assoc}
+use Prim.Native.Nat.{ℕ, suc, _+_, _≤_, _<_}
 use native.Mathlib.Omega.{arith}
 use native.Mathlib.Numerals.{add-one}
 use lib.ListN.{length, getD, take, drop, set, length-append}
 use lib.Seq.{drop-cons, take-suc-set, length-take-le, take-all}
-use Rattle.partlist.specs.Text.{newline, space, numbersEnd, longestLine, numeral, lineRest, lineText, AllBelow, IsLine, Digit}
+use Rattle.partlist.specs.Text.{newline, space, numbersEnd, longestLine, numeral, lineRest, lineText, AllBelow, Digit}
 use Rattle.partlist.proofs.Numerals.{numeral-unique}
 use Rattle.partlist.proofs.Reading.{newline-no-digit, space-no-digit}
 use Rattle.lines.specs.Scans.{ReadsNumber, NoNumber, ReadsLine, NoLine, LineAt}
@@ -58,7 +58,8 @@ record RestBegins (s : List ℕ) : Type 0 where
 rest-begins : (l q : List ℕ) → RestBegins (lineRest l ++ q)
 unfolding lineRest
 rest-begins [] q = record { byte = newline; later = q; joined = refl; no-digit = newline-no-digit; newline-or-space = λ h. absurd (h refl) }
-rest-begins (a ∷ l) q = record { byte = space; later = (numeral a ++ lineRest l) ++ q; joined = refl; no-digit = space-no-digit; newline-or-space = λ h. refl }
+rest-begins (a ∷ l) q =
+    record { byte = space; later = (numeral a ++ lineRest l) ++ q; joined = refl; no-digit = space-no-digit; newline-or-space = λ h. refl }
 
 -- numbers that were passed are the first ones of any line there, and it has another
 pub record Passed (xs l r q : List ℕ) : Type 0 where
@@ -68,7 +69,9 @@ pub record Passed (xs l r q : List ℕ) : Type 0 where
   pub short : first < numbersEnd
   pub left : r ≡ numeral first ++ (lineRest others ++ q)
 
-passed : (xs l r q : List ℕ) → AllBelow numbersEnd xs → 1 ≤ length l → AllBelow numbersEnd l → spaced xs ++ r ≡ lineText l ++ q → Passed xs l r q
+passed :
+    (xs l r q : List ℕ) → AllBelow numbersEnd xs → 1 ≤ length l → AllBelow numbersEnd l → spaced xs ++ r ≡ lineText l ++ q →
+    Passed xs l r q
 unfolding spaced lineText lineRest
 passed [] [] r q h some h′ e = absurd (omega arith)
 passed [] (b ∷ l) r q h some h′ e =

@@ -8,7 +8,7 @@ use Rattle.counting.proofs.Cases.{same-or-not}
 use Prim.Native.Nat.{ℕ, _+_, _≤_, _<_}
 use native.Mathlib.Omega.{arith}
 use lib.ListN.{length, drop, length-drop, drop-of-length-le}
-use Rattle.partlist.specs.Text.{numbersEnd, lineText, textOf, IsLine, AllLines, IsList, NoList}
+use Rattle.partlist.specs.Text.{numbersEnd, lineText, textOf, AllLines, IsList, NoList}
 use Rattle.partlist.proofs.Reading.{Further, text-onward, no-reading, lines-more, text-more}
 use Rattle.partlist.specs.Indices.{lineFits, listFits}
 use Rattle.partlist.proofs.Indices.{fits-more, fits-part}

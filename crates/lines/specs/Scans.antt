@@ -5,7 +5,7 @@ use mathlib.Core.Bool.{Bool, true, false}
 use mathlib.Core.List.{List, [], _∷_, _++_}
 use Prim.Native.Nat.{ℕ, _+_, _≤_, _<_}
 use lib.ListN.{length, getD, take, drop}
-use Rattle.partlist.specs.Text.{digitZero, newline, numbersEnd, longestLine, numeral, lineText, textOf, Digit, IsLine, IsList, NoList}
+use Rattle.partlist.specs.Text.{digitZero, numbersEnd, longestLine, numeral, lineText, textOf, Digit, IsLine, IsList, NoList}
 use Rattle.lines.specs.declared.Number.{Number}
 use Rattle.lines.specs.declared.Number.the-variants.{Read, Malformed}
 use Rattle.partlist.specs.Indices.{listFits}

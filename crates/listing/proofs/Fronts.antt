@@ -7,7 +7,7 @@ use Prim.Native.Nat.{ℕ, zero, suc, _+_, _≤_, _<_}
 use native.Mathlib.Omega.{arith}
 use native.Mathlib.Numerals.{add-one}
 use borrow.Author.Tests.{le-ltb, lt-ltb}
-use lib.ListN.{length, getD, set, take, drop, length-set}
+use lib.ListN.{length, getD, set, take, drop}
 use lib.Seq.{take-suc-set, take-append-seam}
 use lib.Dec.{ltb}
 use Rattle.counting.specs.Counting.{pick}
@@ -20,7 +20,6 @@ use Rattle.calls.specs.declared.Verdict.the-variants.{Accepted, Refused}
 use Rattle.calls.proofs.Grounds.{none-applies-accepted}
 use Rattle.table.specs.Table.{Valid, sized}
 use Rattle.table.specs.Kind.{dimensions}
-use Rattle.audit.specs.Audit.{sound}
 use Rattle.audit.proofs.Valid.{valid-is-sound, valid-is-sized}
 use Rattle.sketch.specs.Form.{longest}
 use Rattle.sketch.specs.Written.{fileOf, writeGrounds, writeVerdict, written}
@@ -74,7 +73,9 @@ module _ (t d : List ℕ) (v : Valid t) (room : length d ≡ longest) where
       (rw (valid-is-sized t v) refl, (rw (valid-is-sound t v) refl, (le-ltb (length d) (length (fileOf t)) (omega (arith, room, file-short)), tt)))
 
   -- the writer's answer is the length, and the file stands in front
-  pub file-front : (n : ℕ) (r : Written) (target : List ℕ) → Ends (writeAnswer t d) (writeLeaves t d) r target → r ≡ Bytes n → Front (fileOf t) n target
+  pub file-front :
+      (n : ℕ) (r : Written) (target : List ℕ) → Ends (writeAnswer t d) (writeLeaves t d) r target → r ≡ Bytes n →
+      Front (fileOf t) n target
   file-front n r target e said =
       record {
         short = omega (arith, long, file-short);
@@ -86,12 +87,14 @@ module _ (t d : List ℕ) (v : Valid t) (room : length d ≡ longest) where
     where
       long : n ≡ length (fileOf t)
       long =
-          let b : Bytes n ≡ Bytes (length (fileOf t)) = sym said ∙ e .answer ∙ ap (λ (w : Verdict). onVerdict w (Bytes (length (fileOf t))) NotWritten) accepted in
+          let b : Bytes n ≡ Bytes (length (fileOf t)) = sym said ∙ e .answer ∙ ap
+          (λ (w : Verdict). onVerdict w (Bytes (length (fileOf t))) NotWritten) accepted in
           cc
 
   pub never-refused : (x : Refusal) (r : Written) (target : List ℕ) → Ends (writeAnswer t d) (writeLeaves t d) r target → r ≡ NotWritten x → ⊥
   never-refused x r target e said =
-      let b : NotWritten x ≡ Bytes (length (fileOf t)) = sym said ∙ e .answer ∙ ap (λ (w : Verdict). onVerdict w (Bytes (length (fileOf t))) NotWritten) accepted in
+      let b : NotWritten x ≡ Bytes (length (fileOf t)) = sym said ∙ e .answer ∙ ap
+      (λ (w : Verdict). onVerdict w (Bytes (length (fileOf t))) NotWritten) accepted in
       let z : _≡_ {A = ℕ} 0 1 = cc in
       omega arith
 
@@ -121,7 +124,9 @@ module _ (t text u : List ℕ) (r : Verdict) (e : t ≡ blank) (ends : Ends (imp
       subst Valid (sym blank-left) (accepted-table-of-list blank text (sym blank-verdict ∙ fine) (a .count) (a .lines) (a .is-list) .valid)
 
 module _ (text : List ℕ) where
-  pub converted-file : (n : ℕ) (target u : List ℕ) → importVerdict blank text ≡ Accepted → u ≡ importLeaves blank text → Front (fileOf u) n target → Converted text n target
+  pub converted-file :
+      (n : ℕ) (target u : List ℕ) → importVerdict blank text ≡ Accepted → u ≡ importLeaves blank text → Front (fileOf u) n target →
+      Converted text n target
   converted-file n target u fine e f =
       record {
         short = f .short;
@@ -129,7 +134,9 @@ module _ (text : List ℕ) where
         accepted = λ a. f .bytes ∙ ap fileOf e;
       }
 
-  pub converted-line : (n : ℕ) (target : List ℕ) (r : Refusal) → importVerdict blank text ≡ Refused r → Front (refusedLine (numberOf r)) n target → Converted text n target
+  pub converted-line :
+      (n : ℕ) (target : List ℕ) (r : Refusal) → importVerdict blank text ≡ Refused r → Front (refusedLine (numberOf r)) n target →
+      Converted text n target
   converted-line n target r bad f =
       record {
         short = f .short;
@@ -137,7 +144,8 @@ module _ (text : List ℕ) where
         accepted = λ fine. absurd (refused-accepted r (sym bad ∙ fine));
       }
 
-  pub lists-long : (n : ℕ) (target : List ℕ) → longestText < length text → Front (refusedLine (numberOf BadText)) n target → Lists text (take n target)
+  pub lists-long :
+      (n : ℕ) (target : List ℕ) → longestText < length text → Front (refusedLine (numberOf BadText)) n target → Lists text (take n target)
   unfolding listVerdict
   lists-long n target long f =
       record {

@@ -8,7 +8,7 @@ use native.Mathlib.Omega.{arith}
 use borrow.Author.Tests.{lt-ltb, le-ltb}
 use lib.ListN.{length, getD}
 use Rattle.counting.proofs.Cases.{below-or-not}
-use Rattle.table.specs.Kind.{capacity, top, faces, used}
+use Rattle.table.specs.Kind.{capacity, faces, used}
 use Rattle.table.specs.Table.{dim, face}
 use Rattle.corner.specs.Corner.{cornerAt, cornerOf}
 use Rattle.partlist.specs.Text.{AllLines}

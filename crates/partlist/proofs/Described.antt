@@ -1,21 +1,22 @@
 -- The table of a part list is what it has to be. What carries it: the laws of the table, of faces and of corners. Assumes nothing.
-use mathlib.Core.Path.{_≡_, refl, sym, ap, subst, _∙_}
+use mathlib.Core.Path.{_≡_, sym, ap, _∙_}
 use mathlib.Core.List.{List}
 use Prim.Native.Nat.{ℕ, suc, _≤_, _<_}
 use native.Mathlib.Omega.{arith}
 use lib.ListN.{length}
-use Rattle.table.specs.Kind.{capacity, top, used}
-use Rattle.table.specs.Table.{cellsOf, dim, face, Live}
-use Rattle.table.proofs.Words.{cellsOf-tableOf}
+use Rattle.table.specs.Kind.{capacity, used}
+use Rattle.table.specs.Table.{dim, face, Live}
 use Rattle.partlist.specs.Text.{AllLines}
 use Rattle.partlist.specs.Cells.{cellList}
-use Rattle.partlist.specs.ListTable.{without, cornersAt, dimAt, faceAt, cellAt, listTable}
+use Rattle.partlist.specs.ListTable.{without, cornersAt, listTable}
 use Rattle.partlist.specs.Sweep.{Complete, InRange}
 use Rattle.partlist.specs.Described.{TableOfList}
 use Rattle.partlist.proofs.ListTable.{list-complete, list-table-valid, list-face, corners-count, dim-at, face-at, entry, entry-live, used-here, place-small}
 use Rattle.partlist.proofs.Corners.{list-corner}
 
-module _ (n : ℕ) (ls : List (List ℕ)) (lines : AllLines ls) (range : InRange n ls) (room : ℕ) (some : 1 ≤ room) (most : room ≤ capacity) (fits : length (cellList n ls) ≤ room) where
+module _
+    (n : ℕ) (ls : List (List ℕ)) (lines : AllLines ls) (range : InRange n ls) (room : ℕ) (some : 1 ≤ room) (most : room ≤ capacity)
+    (fits : length (cellList n ls) ≤ room) where
   abbrev cs : List (List ℕ)
   cs = cellList n ls
 
@@ -27,7 +28,9 @@ module _ (n : ℕ) (ls : List (List ℕ)) (lines : AllLines ls) (range : InRange
   dimensions-agree c h =
       corners-count cs complete c h ∙ ap suc (sym (dim-at cs complete room some most fits c (omega (arith, fits))))
 
-  faces-agree : (c j : ℕ) → c < length (cellList n ls) → j < used (dim (listTable room cs) c) → cornersAt cs (face (listTable room cs) c j) ≡ without j (cornersAt cs c)
+  faces-agree :
+      (c j : ℕ) → c < length (cellList n ls) → j < used (dim (listTable room cs) c) →
+      cornersAt cs (face (listTable room cs) c j) ≡ without j (cornersAt cs c)
   unfolding listTable
   faces-agree c j h l =
       let u = used-here cs complete room some most fits c j (omega (arith, fits)) l in

@@ -1,7 +1,7 @@
 -- Dictionary order is an order, and the comparison of two lists tells it; so does that of two cells.
 -- What carries it: recursion on both lists. Assumes nothing.
-use mathlib.Core.Path.{_≡_, refl, sym, ap, ap₂, _∙_}
-use mathlib.Core.Logic.{_⊎_, inl, inr, ⊎-elim}
+use mathlib.Core.Path.{_≡_, refl, sym, ap₂, _∙_}
+use mathlib.Core.Logic.{_⊎_, inl, inr}
 use mathlib.Core.List.{List, [], _∷_, tail-eq-of-cons-eq}
 use Prim.Native.Nat.{ℕ, _<_}
 use native.Mathlib.Omega.{arith}
@@ -28,7 +28,9 @@ on-less [] (b ∷ m) e = tt
 on-less (a ∷ l) [] e = less-more (sym e)
 on-less (a ∷ l) (b ∷ m) e = go (comparedNumbers a b) refl e (on-less l m)
   where
-    go : (x : Compared) → comparedNumbers a b ≡ x → firstOf x (comparedLists l m) ≡ less → (comparedLists l m ≡ less → Before l m) → Before (a ∷ l) (b ∷ m)
+    go :
+        (x : Compared) → comparedNumbers a b ≡ x → firstOf x (comparedLists l m) ≡ less → (comparedLists l m ≡ less → Before l m) →
+        Before (a ∷ l) (b ∷ m)
     go less i k rest = inl (numbers-tell .on-less a b i)
     go same i k rest = inr (numbers-tell .on-same a b i, rest k)
     go more i k rest = less-more (sym k)
@@ -52,7 +54,9 @@ on-more [] (b ∷ m) e = less-more e
 on-more (a ∷ l) [] e = tt
 on-more (a ∷ l) (b ∷ m) e = go (comparedNumbers a b) refl e (on-more l m)
   where
-    go : (x : Compared) → comparedNumbers a b ≡ x → firstOf x (comparedLists l m) ≡ more → (comparedLists l m ≡ more → Before m l) → Before (b ∷ m) (a ∷ l)
+    go :
+        (x : Compared) → comparedNumbers a b ≡ x → firstOf x (comparedLists l m) ≡ more → (comparedLists l m ≡ more → Before m l) →
+        Before (b ∷ m) (a ∷ l)
     go less i k rest = less-more k
     go same i k rest = inr (sym (numbers-tell .on-same a b i), rest k)
     go more i k rest = inl (numbers-tell .on-more a b i)

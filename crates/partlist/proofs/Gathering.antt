@@ -5,10 +5,9 @@ use mathlib.Core.Logic.{_⊎_, inl, inr, ⊎-elim}
 use mathlib.Core.List.{List, [], _∷_, _++_, head-eq-of-cons-eq, List·Memᴰ as In, List·Memᴰ·head as here, List·Memᴰ·tail as there, List·Memᴰ·cases-cons as in-cases, List·Memᴰ·not-nil as in-nil, Memᴰ·append-left as in-left, Memᴰ·append-right as in-right, List·Memᴰ·append-cases as in-either, List·Memᴰ·eq-of-singleton as in-one}
 use Prim.Native.Nat.{ℕ, zero, suc, _+_, _≤_, _<_}
 use native.Mathlib.Omega.{arith}
-use lib.ListN.{length, getD}
+use lib.ListN.{length}
 use Rattle.counting.proofs.Cases.{below-or-not, same-or-not}
 use Rattle.partlist.specs.Text.{IsLine}
-use Rattle.counting.specs.Dictionary.{Before}
 use Rattle.partlist.specs.Sorting.{Sorted, comparedNumbers, sortedUp}
 use Rattle.partlist.specs.Cells.{IsPoint, InLine, IsCell, Earlier, comparedCells, cellList}
 use Rattle.partlist.specs.ListTable.{cornersAt, numberIn}
@@ -43,7 +42,9 @@ unfolding pointsFrom
 points-from-has k zero i l h = absurd (omega arith)
 points-from-has k (suc m) i l h = go (same-or-not i k) (points-from-has (suc k) m i)
   where
-    go : (i ≡ k) ⊎ (i ≡ k → ⊥) → (suc k ≤ i → i < suc k + m → In (i ∷ []) (pointsFrom (suc k) m)) → In (i ∷ []) ((k ∷ []) ∷ pointsFrom (suc k) m)
+    go :
+        (i ≡ k) ⊎ (i ≡ k → ⊥) → (suc k ≤ i → i < suc k + m → In (i ∷ []) (pointsFrom (suc k) m)) →
+        In (i ∷ []) ((k ∷ []) ∷ pointsFrom (suc k) m)
     go (inl e) rest = here (ap (λ (x : ℕ). x ∷ []) e)
     go (inr ne) rest = there (rest (omega (arith, ne)) (omega arith))
 
@@ -121,7 +122,9 @@ module _ (n : ℕ) (ls : List (List ℕ)) (l : List ℕ) where
         origin = inr (record { line = l; listed = in-right ls (here refl); subset = λ a m. sorted-only _<_ comparedNumbers numbers-tell a l m });
       }
 
-  lines-of : (cs : List (List ℕ)) → ((k : List ℕ) → In k ls → In (sortedUp comparedNumbers k) cs) → In (sortedUp comparedNumbers l) cs → (k : List ℕ) → In k (ls ++ (l ∷ [])) → In (sortedUp comparedNumbers k) cs
+  lines-of :
+      (cs : List (List ℕ)) → ((k : List ℕ) → In k ls → In (sortedUp comparedNumbers k) cs) → In (sortedUp comparedNumbers l) cs →
+      (k : List ℕ) → In k (ls ++ (l ∷ [])) → In (sortedUp comparedNumbers k) cs
   lines-of cs before now k h =
       ⊎-elim (before k) (λ i. subst (λ (x : List ℕ). In (sortedUp comparedNumbers x) cs) (sym (in-one i)) now) (in-either ls h)
 
@@ -139,9 +142,14 @@ module _ (n : ℕ) (ls : List (List ℕ)) (l : List ℕ) where
   gather-put cs k g h fit =
       record {
         sorted = put-sorted n ls cs (sortedUp comparedNumbers l) k fit (g .sorted);
-        cells = λ σ m. ⊎-elim (λ e. rw e (sorted-line-cell h)) (λ i. cell-more n ls (l ∷ []) σ (g .cells σ i)) (put-only n ls cs (sortedUp comparedNumbers l) k fit σ m);
+        cells =
+            λ σ m. ⊎-elim (λ e. rw e (sorted-line-cell h)) (λ i. cell-more n ls (l ∷ []) σ (g .cells σ i))
+            (put-only n ls cs (sortedUp comparedNumbers l) k fit σ m);
         points = λ i m. put-keeps n ls cs (sortedUp comparedNumbers l) k fit (i ∷ []) (g .points i m);
-        lines = lines-of (putAt k (sortedUp comparedNumbers l) cs) (λ j m. put-keeps n ls cs (sortedUp comparedNumbers l) k fit (sortedUp comparedNumbers j) (g .lines j m)) (put-in n ls cs (sortedUp comparedNumbers l) k fit);
+        lines =
+            lines-of (putAt k (sortedUp comparedNumbers l) cs)
+            (λ j m. put-keeps n ls cs (sortedUp comparedNumbers l) k fit (sortedUp comparedNumbers j) (g .lines j m))
+            (put-in n ls cs (sortedUp comparedNumbers l) k fit);
       }
 
 -- the first numbers are the points'
@@ -166,11 +174,19 @@ module _ (n : ℕ) (ls : List (List ℕ)) where
       inside : i < length (cellList n ls)
       inside = omega (arith, points-most n ls)
 
-      go : (c ≡ i) ⊎ (c ≡ i → ⊥) → (c < i) ⊎ (i ≤ c) → ((k : ℕ) → k < m → k < n → cornersAt (cellList n ls) k ≡ k ∷ []) → cornersAt (cellList n ls) i ≡ i ∷ []
+      go :
+          (c ≡ i) ⊎ (c ≡ i → ⊥) → (c < i) ⊎ (i ≤ c) → ((k : ℕ) → k < m → k < n → cornersAt (cellList n ls) k ≡ k ∷ []) →
+          cornersAt (cellList n ls) i ≡ i ∷ []
       go (inl e) b rest = subst (λ (x : ℕ). cornersAt (cellList n ls) x ≡ i ∷ []) e (w .tells)
       go (inr ne) (inl b) rest = absurd (ne (head-eq-of-cons-eq (sym (rest c (omega arith) (omega arith)) ∙ w .tells)))
       go (inr ne) (inr b) rest =
           let r : Earlier (cornersAt (cellList n ls) i) (i ∷ []) =
           subst (λ (x : List ℕ). Earlier (cornersAt (cellList n ls) i) x) (w .tells) (numbers-in-order n ls i c (omega (arith, ne)) (w .inside)) in
-          let p = single-before (cornersAt (cellList n ls) i) i (entries-are-cells n ls (cornersAt (cellList n ls) i) (entry-in (cellList n ls) i [] inside) .some) r in
-          absurd (omega (arith, p .1, none-twice n ls (p .0) i (omega (arith, p .1, inside)) inside (rest (p .0) (omega (arith, p .1)) (omega (arith, p .1)) ∙ sym (p .2))))
+          let p = single-before (cornersAt (cellList n ls) i) i
+          (entries-are-cells n ls (cornersAt (cellList n ls) i) (entry-in (cellList n ls) i [] inside) .some) r in
+          absurd (omega (
+            arith,
+            p .1,
+            none-twice n ls (p .0) i (omega (arith, p .1, inside)) inside
+                (rest (p .0) (omega (arith, p .1)) (omega (arith, p .1)) ∙ sym (p .2)),
+          ))

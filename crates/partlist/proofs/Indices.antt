@@ -92,7 +92,8 @@ module _ (n : ℕ) (ns : List ℕ) (c : ℕ) (few : c ≤ length ns) where
   taken-unfit i h e =
       sym
       (not-true-false (lineFits n (take c ns))
-      (λ t. false≢true (sym e ∙ sym (index-taken i h) ∙ all-true (indexFits n (take c ns)) (length (take c ns)) t i (omega (arith, length-take-le c ns few)))))
+      (λ t. false≢true (sym e ∙ sym (index-taken i h) ∙ all-true (indexFits n (take c ns)) (length (take c ns)) t i
+      (omega (arith, length-take-le c ns few)))))
 
 -- one line more
 pub fits-more : (n : ℕ) (ls : List (List ℕ)) (l : List ℕ) → listFits n (ls ++ (l ∷ [])) ≡ (listFits n ls && lineFits n l)
@@ -122,7 +123,9 @@ unfolding lineFits indexFits repeated
 line-fit n l e =
     record {
       below = λ i h. ltb-true (getD l i 0) n (and-left _ _ (at i h));
-      apart = λ j i h k same. false≢true (sym (not-held _ (and-right (ltb (getD l i 0) n) _ (at i k))) ∙ someHas-at (λ j. eqb (getD l j 0) (getD l i 0)) i j h (eq-eqb _ _ same));
+      apart =
+          λ j i h k same. false≢true (sym (not-held _ (and-right (ltb (getD l i 0) n) _ (at i k))) ∙ someHas-at
+          (λ j. eqb (getD l j 0) (getD l i 0)) i j h (eq-eqb _ _ same));
     }
   where
     not-held : (b : Bool) → not b ≡ true → b ≡ false

@@ -3,21 +3,21 @@
 use mathlib.Core.Path.{_≡_, refl, sym, ap, subst, _∙_}
 use mathlib.Core.Bool.{Bool, true, false}
 use mathlib.Core.Logic.{_⊎_, inl, inr, ⊎-elim}
-use mathlib.Core.List.{List, [], _∷_, List·Memᴰ as In, List·Memᴰ·head as here, List·Memᴰ·tail as there, List·Memᴰ·cases-cons as in-cases, List·Memᴰ·not-nil as in-nil}
-use Prim.Native.Nat.{ℕ, zero, suc, _+_, _-_, _*_, _≤_, _<_}
+use mathlib.Core.List.{List, [], _∷_, List·Memᴰ as In, List·Memᴰ·cases-cons as in-cases, List·Memᴰ·not-nil as in-nil}
+use Prim.Native.Nat.{ℕ, zero, suc, _+_, _-_, _≤_, _<_}
 use native.Mathlib.Omega.{arith}
-use borrow.Author.Tests.{eqb-true, eqb-false, leb-true, lt-ltb, le-ltb, le-leb, ne-eqb}
-use lib.Dec.{leb, ltb, eqb}
-use lib.ListN.{length, getD}
+use borrow.Author.Tests.{eqb-false, leb-true, lt-ltb, le-ltb, le-leb, ne-eqb}
+use lib.Dec.{leb, eqb}
+use lib.ListN.{length}
 use Rattle.counting.specs.Counting.{pick}
 use Rattle.counting.proofs.Cases.{below-or-not}
-use Rattle.table.specs.Kind.{capacity, top, faces, width, freeMark, used}
-use Rattle.table.specs.Table.{cellsOf, dim, face, Sized, Live, Valid}
+use Rattle.table.specs.Kind.{capacity, top, faces, freeMark, used}
+use Rattle.table.specs.Table.{cellsOf, dim, face, Live, Valid}
 use Rattle.table.specs.Records.{tableOf}
 use Rattle.table.proofs.Words.{length-tableOf, cellsOf-tableOf, dim-tableOf, face-tableOf}
-use Rattle.partlist.specs.Text.{longestLine, AllLines}
+use Rattle.partlist.specs.Text.{AllLines}
 use Rattle.partlist.specs.Sorting.{Compared, less, same, more}
-use Rattle.partlist.specs.Cells.{Earlier, comparedCells, IsCell, cellList}
+use Rattle.partlist.specs.Cells.{comparedCells, IsCell, cellList}
 use Rattle.partlist.specs.ListTable.{without, isSame, numberIn, cornersAt, dimAt, faceAt, cellAt, listTable}
 use Rattle.partlist.specs.Sweep.{Complete}
 use Rattle.partlist.proofs.Sorting.{entry-in}
@@ -51,7 +51,9 @@ number-tells (c ∷ cs) σ m = go (comparedCells σ c) refl (in-cases m) (number
     another x e ne (inl i) = absurd (ne (sym e ∙ ap (comparedCells σ) (sym i) ∙ compared-self σ))
     another x e ne (inr k) = k
 
-    go : (x : Compared) → comparedCells σ c ≡ x → (σ ≡ c) ⊎ In σ cs → (In σ cs → Numbered cs σ (numberIn cs σ)) → Numbered (c ∷ cs) σ (pick (isSame x) 0 (suc (numberIn cs σ)))
+    go :
+        (x : Compared) → comparedCells σ c ≡ x → (σ ≡ c) ⊎ In σ cs → (In σ cs → Numbered cs σ (numberIn cs σ)) →
+        Numbered (c ∷ cs) σ (pick (isSame x) 0 (suc (numberIn cs σ)))
     go less e k i = later (i (another less e (λ z. let y : _≡_ {A = ℕ} 0 1 = cc in omega arith) k))
     go same e k i = record { inside = omega arith; tells = sym (cells-tell .on-same σ c e) }
     go more e k i = later (i (another more e (λ z. let y : _≡_ {A = ℕ} 0 1 = cc in omega arith) k))
@@ -113,7 +115,14 @@ module _ (cs : List (List ℕ)) (complete : Complete cs) where
       let w = face-tells c j h l in
       let u = used-says (dimAt cs c) j l in
       let e : length (cornersAt cs (faceAt cs c j)) ≡ length (without j (cornersAt cs c)) = ap length (w .tells) in
-      omega (arith, e, without-length j (cornersAt cs c) (omega (arith, corners-count c h, u .place)), corners-count c h, corners-count (faceAt cs c j) (w .inside))
+      omega (
+        arith,
+        e,
+        without-length j (cornersAt cs c) (omega (arith, corners-count c h, u .place)),
+        corners-count c h,
+        corners-count
+            (faceAt cs c j) (w .inside),
+      )
 
   two-faces : (c j l : ℕ) → c < length cs → (hj : j < used (dimAt cs c)) → l < used (dimAt cs (faceAt cs c j)) →
       faceAt cs (faceAt cs c j) l ≡ numberIn cs (without l (without j (cornersAt cs c)))
@@ -214,14 +223,17 @@ list-complete n ls h =
     record {
       some = λ c l. cell c l .some;
       most = λ c l. cell-size n ls (cornersAt (cellList n ls) c) h (cell c l);
-      facets = λ c j l two k. cells-are-entries n ls (without j (cornersAt (cellList n ls) c)) (facet-cell n ls (cornersAt (cellList n ls) c) j (cell c l) two k);
+      facets =
+          λ c j l two k. cells-are-entries n ls (without j (cornersAt (cellList n ls) c))
+          (facet-cell n ls (cornersAt (cellList n ls) c) j (cell c l) two k);
     }
   where
     cell : (c : ℕ) → c < length (cellList n ls) → IsCell n ls (cornersAt (cellList n ls) c)
     cell c l = entries-are-cells n ls (cornersAt (cellList n ls) c) (entry-in (cellList n ls) c [] l)
 
 -- the table of a part list that has room in N records is valid
-pub list-table-valid : (m n : ℕ) (ls : List (List ℕ)) → AllLines ls → 1 ≤ m → m ≤ capacity → length (cellList n ls) ≤ m → Valid (listTable m (cellList n ls))
+pub list-table-valid :
+    (m n : ℕ) (ls : List (List ℕ)) → AllLines ls → 1 ≤ m → m ≤ capacity → length (cellList n ls) ≤ m → Valid (listTable m (cellList n ls))
 unfolding listTable
 list-table-valid m n ls h some room fits = table-valid (cellList n ls) (list-complete n ls h) m some room fits
 

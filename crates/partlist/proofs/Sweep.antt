@@ -1,31 +1,30 @@
 -- The sweep's steps: what holds on the way goes on holding, and at the end the entries are exactly the cells.
 -- What carries it: a facet stands before its cell, so an insertion moves the cell and all entries after it up by one; and a part of a
 -- line is reached from it by taking away one corner at a time. Assumes nothing.
-use mathlib.Core.Path.{_≡_, refl, sym, ap, ap₂, subst, _∙_}
+use mathlib.Core.Path.{_≡_, refl, sym, ap, subst}
 use mathlib.Core.Logic.{_⊎_, inl, inr, ⊎-elim}
-use mathlib.Core.List.{List, [], _∷_, _++_, List·Memᴰ as In, List·Memᴰ·head as here, List·Memᴰ·tail as there, List·Memᴰ·cases-cons as in-cases, List·Memᴰ·not-nil as in-nil}
-use Prim.Native.Nat.{ℕ, zero, suc, _+_, _≤_, _<_}
+use mathlib.Core.List.{List, [], _∷_, List·Memᴰ as In, List·Memᴰ·head as here}
+use Prim.Native.Nat.{ℕ, zero, suc, _≤_, _<_}
 use native.Mathlib.Omega.{arith}
-use lib.ListN.{length, getD}
+use lib.ListN.{length}
 use Rattle.counting.proofs.Cases.{below-or-not, same-or-not}
-use Rattle.partlist.specs.Text.{AllLines}
-use Rattle.partlist.specs.Sorting.{Sorted, Rising, comparedNumbers, sortedUp, insert}
+use Rattle.partlist.specs.Sorting.{Sorted, comparedNumbers, sortedUp, insert}
 use Rattle.partlist.specs.Cells.{IsPoint, InLine, IsCell, Earlier, comparedCells, cellList}
-use Rattle.partlist.specs.ListTable.{without, cornersAt, numberIn}
+use Rattle.partlist.specs.ListTable.{without, cornersAt}
 use Rattle.partlist.specs.Sweep.{putAt, Fitting, Gathered, FacetsBelow, Swept, Sweeping, InRange}
-use Rattle.partlist.proofs.Sorting.{numbers-tell, sorted-up, sorted-has, sorted-only, insert-in, insert-keeps, insert-only, insert-sorted, entry-in}
+use Rattle.partlist.proofs.Sorting.{insert-in, insert-keeps, insert-only, insert-sorted, entry-in}
 use Rattle.partlist.proofs.Dictionary.{cells-tell}
-use Rattle.partlist.proofs.Placing.{insert-by-place, sorted-same, sorted-within, put-length, put-later}
-use Rattle.partlist.proofs.Parts.{Within, above-within}
-use Rattle.partlist.proofs.Without.{without-length, without-in, without-rising}
-use Rattle.partlist.proofs.CellList.{entries-are-cells, cells-are-entries, list-sorted, facet-cell}
-use Rattle.partlist.proofs.ListTable.{Numbered, number-tells}
+use Rattle.partlist.proofs.Placing.{insert-by-place, sorted-within, put-length, put-later}
+use Rattle.partlist.proofs.Without.{without-length, without-in}
+use Rattle.partlist.proofs.CellList.{cells-are-entries, list-sorted, facet-cell}
 
 -- a facet stands before its cell
 pub facet-earlier : (j : ℕ) (σ : List ℕ) → j < length σ → Earlier (without j σ) σ
 facet-earlier j σ h = inl (omega (arith, without-length j σ h))
 
-facets-carried : (cs cs′ : List (List ℕ)) (c c′ j : ℕ) → cornersAt cs′ c′ ≡ cornersAt cs c → ((σ : List ℕ) → In σ cs → In σ cs′) → FacetsBelow cs c j → FacetsBelow cs′ c′ j
+facets-carried :
+    (cs cs′ : List (List ℕ)) (c c′ j : ℕ) → cornersAt cs′ c′ ≡ cornersAt cs c → ((σ : List ℕ) → In σ cs → In σ cs′) → FacetsBelow cs c j →
+    FacetsBelow cs′ c′ j
 facets-carried cs cs′ c c′ j e keep f i =
     subst (λ (τ : List ℕ). i < j → i < length τ → 2 ≤ length τ → In (without i τ) cs′) (sym e) (λ a b two. keep (without i (cornersAt cs c)) (f i a b two))
 
@@ -72,7 +71,9 @@ module _ (n : ℕ) (ls cs : List (List ℕ)) where
   pub sweep-found : (c j : ℕ) → Sweeping n ls cs c j → In (without j (cornersAt cs c)) cs → Sweeping n ls cs c (suc j)
   sweep-found c j s m = record { swept = s .swept; facets = λ i h. go i h (same-or-not i j) }
     where
-      go : (i : ℕ) → i < suc j → (i ≡ j) ⊎ (i ≡ j → ⊥) → i < length (cornersAt cs c) → 2 ≤ length (cornersAt cs c) → In (without i (cornersAt cs c)) cs
+      go :
+          (i : ℕ) → i < suc j → (i ≡ j) ⊎ (i ≡ j → ⊥) → i < length (cornersAt cs c) → 2 ≤ length (cornersAt cs c) →
+          In (without i (cornersAt cs c)) cs
       go i h (inl e) a two = rw e m
       go i h (inr ne) a two = s .facets i (omega (arith, ne)) a two
 
@@ -122,7 +123,9 @@ module _ (n : ℕ) (ls cs : List (List ℕ)) where
   facet-moves c j k h fit d l = put-later k (without j (cornersAt cs c)) [] cs d (omega (arith, facet-below c j k h fit)) (fit .inside)
 
   -- the facet is put in at its place
-  pub sweep-put : (c j k : ℕ) → Sweeping n ls cs c j → j < length (cornersAt cs c) → 2 ≤ length (cornersAt cs c) → Fitting cs (without j (cornersAt cs c)) k →
+  pub sweep-put :
+      (c j k : ℕ) → Sweeping n ls cs c j → j < length (cornersAt cs c) → 2 ≤ length (cornersAt cs c) →
+      Fitting cs (without j (cornersAt cs c)) k →
       Sweeping n ls (putAt k (without j (cornersAt cs c)) cs) (suc c) (suc j)
   sweep-put c j k s h two fit =
       record {
@@ -161,6 +164,8 @@ module _ (n : ℕ) (ls cs : List (List ℕ)) where
           facets-carried cs cs′ d (suc d) (length (cornersAt cs′ (suc d))) (moved d (omega arith)) keep
           (λ i a. s .swept .closed d (omega arith) (omega (arith, put-length k τ cs)) i (omega (arith, a, ap length (moved d (omega arith)))))
 
-      go : (i : ℕ) → i < suc j → (i ≡ j) ⊎ (i ≡ j → ⊥) → i < length (cornersAt cs′ (suc c)) → 2 ≤ length (cornersAt cs′ (suc c)) → In (without i (cornersAt cs′ (suc c))) cs′
+      go :
+          (i : ℕ) → i < suc j → (i ≡ j) ⊎ (i ≡ j → ⊥) → i < length (cornersAt cs′ (suc c)) → 2 ≤ length (cornersAt cs′ (suc c)) →
+          In (without i (cornersAt cs′ (suc c))) cs′
       go i l (inl e) a b = rw (moved c (omega arith), e) (put-in n ls cs τ k fit)
       go i l (inr ne) a b = facets-carried cs cs′ c (suc c) j (moved c (omega arith)) keep (s .facets) i (omega (arith, ne)) a b

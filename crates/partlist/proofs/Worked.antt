@@ -1,7 +1,6 @@
 -- Worked cases, by computation: the text of two lists, their cells in order, and the table of one.
 use mathlib.Core.Path.{_≡_, refl}
-use mathlib.Core.List.{List, [], _∷_}
-use Prim.Native.Nat.{ℕ}
+use mathlib.Core.List.{[], _∷_}
 use Rattle.counting.specs.Counting.{listed}
 use Rattle.table.specs.Records.{wordOf, tableOf}
 use Rattle.partlist.specs.Text.{digits, numeral, lineRest, lineText, linesText, textOf}

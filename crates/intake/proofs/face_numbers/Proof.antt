@@ -1,20 +1,13 @@
 -- `face_numbers` meets its contract. The invariant: the faces at the places below j are found. The measure: the places left.
 -- Assumes nothing.
 use borrow.Author.Needs.{needs}
-use mathlib.Core.Path.{_≡_, refl, sym, ap, _∙_}
-use Prim.Native.Nat.{ℕ, suc, _+_, _-_, _*_, _≤_, _<_}
+use Prim.Native.Nat.{_-_, _≤_, _<_}
 use native.Mathlib.Omega.{arith}
-use lib.ListN.{length, getD, take, drop}
 use Rattle.table.specs.Kind.{faces, used}
 use Rattle.partlist.proofs.ListTable.{used-says}
 use Rattle.intake.proofs.Faces.{FacesTo, faces-none, faces-more, faces-all}
 use Rattle.intake.proofs.face_numbers.Statement.{statement}
 use Rattle.intake.proofs.face_numbers.Tie as tie
-use Rattle.intake.proofs.face_numbers.Reads as reads
-use Rattle.intake.proofs.face_numbers.Lts as lts
-use Rattle.corners.proofs.number_of.Reads as number-of-reads
-use Rattle.corners.proofs.without.Reads as without-reads
-use Rattle.table.proofs.Table.used.Reads as used-reads
 
 abbrev Inv-loop : tie.InvT-loop
 Inv-loop t c p words used f₀ j₀ f j = FacesTo t c p words f j

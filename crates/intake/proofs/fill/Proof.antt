@@ -1,22 +1,14 @@
 -- `fill` meets its contract: points, lines, sweep and faces, each with what the step before it leaves. Assumes nothing.
 use borrow.Author.Needs.{needs}
-use mathlib.Core.Path.{_≡_, refl, sym, ap, _∙_}
-use Prim.Native.Nat.{ℕ, suc, _+_, _-_, _*_, _≤_, _<_}
+use mathlib.Core.Path.{_≡_, _∙_}
+use Prim.Native.Nat.{ℕ, _-_, _≤_, _<_}
 use native.Mathlib.Omega.{arith}
-use lib.ListN.{length, getD, take, drop}
-use borrow.Author.Needs.{needs}
+use lib.ListN.{length}
 use Rattle.table.specs.Table.{cellsOf}
 use Rattle.intake.specs.Steps.{Gathers, Sweeps}
 use Rattle.intake.proofs.Filling.{kept-here, gathers-there, sweeps-there, puts-there, fills-no-points, fills-no-lines, fills-no-facets, fills-all}
 use Rattle.intake.proofs.fill.Statement.{statement}
 use Rattle.intake.proofs.fill.Tie as tie
-use Rattle.intake.proofs.fill.Reads as reads
-use Rattle.intake.proofs.fill.Lts as lts
-use Rattle.intake.proofs.put_faces.Reads as put-faces-reads
-use Rattle.intake.proofs.sweep.Reads as sweep-reads
-use Rattle.intake.proofs.take_lines.Reads as take-lines-reads
-use Rattle.intake.proofs.take_points.Reads as take-points-reads
-use Rattle.table.proofs.Table.room.Reads as room-reads
 
 room-requires : tie.Need-room-requires
 room-requires c κs = search needs
@@ -56,7 +48,9 @@ points g = g .before .before .before .before .before .before
 sized : (g : tie.After-take-lines) → length (g .take-lines .last .0) ≡ length (start (points g) .args .t .now)
 sized g = g .take-lines .kept .0 ∙ g .before .before .before .before .take-points .kept .0
 
-gathered : (g : tie.After-take-lines) → let s = start (points g) .args in Gathers (s .text .now) (s .n) (cellsOf (s .t .now)) (g .take-lines .last .0) (g .take-lines .result)
+gathered :
+    (g : tie.After-take-lines) → let s = start (points g) .args in
+    Gathers (s .text .now) (s .n) (cellsOf (s .t .now)) (g .take-lines .last .0) (g .take-lines .result)
 gathered g =
     let p = g .before .before .before .before .take-points in
     gathers-there (start (points g) .args .t .now) (p .last .0) (p .kept .0) (g .take-lines .ensures)
@@ -84,7 +78,9 @@ sweep-requires c κs =
 abbrev lines : tie.After-sweep → tie.After-take-lines
 lines w = w .before .before .before .before .before
 
-swept : (w : tie.After-sweep) → let g = lines w in Sweeps (cellsOf (start (points g) .args .t .now)) (g .take-lines .last .0) (w .sweep .last .0) (g .take-lines .result) (w .sweep .result)
+swept :
+    (w : tie.After-sweep) → let g = lines w in
+    Sweeps (cellsOf (start (points g) .args .t .now)) (g .take-lines .last .0) (w .sweep .last .0) (g .take-lines .result) (w .sweep .result)
 swept w = let g = lines w in sweeps-there (start (points g) .args .t .now) _ (sized g) (w .sweep .ensures)
 
 same-length-3 : tie.Need-same-length-3
@@ -114,7 +110,8 @@ returns-4 c =
     let e = p .before .before in
     let w = e .before .before .before in
     let g = lines w in
-    fills-all _ _ _ _ _ (gathered g) (start (points g) .pre .3) (inside (points g) (w .before .before .if2 .left)) _ _ (swept w) (inside (points g) (e .if3 .left)) _
+    fills-all _ _ _ _ _ (gathered g) (start (points g) .pre .3) (inside (points g) (w .before .before .if2 .left)) _ _ (swept w)
+    (inside (points g) (e .if3 .left)) _
     (puts-there (start (points g) .args .t .now) _ (w .sweep .kept .0 ∙ sized g) (p .put-faces .ensures))
 
 pub fill-spec : {M : Type 1} → statement M

@@ -1,11 +1,9 @@
 -- `intake::import` meets its contract: the four grounds in their order, each decided by its own test; what is refused after the length
 -- is emptied. Assumes nothing.
 use borrow.Author.Needs.{needs}
-use mathlib.Core.Path.{_≡_, refl, sym, ap, _∙_}
-use Prim.Native.Nat.{ℕ, suc, _+_, _-_, _*_, _≤_, _<_}
-use native.Mathlib.Omega.{arith}
-use lib.ListN.{length, getD, take, drop}
-use borrow.Author.Needs.{needs}
+use mathlib.Core.Path.{_≡_, refl, sym, _∙_}
+use Prim.Native.Nat.{_-_}
+use lib.ListN.{length}
 use mathlib.Core.Bool.{true}
 use lib.ListN.{replicate}
 use Rattle.table.specs.Kind.{freeMark}
@@ -15,12 +13,6 @@ use Rattle.intake.specs.Steps.{Fills}
 use Rattle.intake.proofs.Answers.{as-read, imports-length, accepted-sized, cleared, none-kept, imports-text, imports-index, imports-full, imports-all, imports-refused, scan-none, scan-unfit, scan-fit, fills-there}
 use Rattle.intake.proofs.import.Statement.{statement}
 use Rattle.intake.proofs.import.Tie as tie
-use Rattle.intake.proofs.import.Reads as reads
-use Rattle.intake.proofs.import.Lts as lts
-use Rattle.audit.proofs.empty.Reads as empty-reads
-use Rattle.intake.proofs.fill.Reads as fill-reads
-use Rattle.intake.proofs.refused.Reads as refused-reads
-use Rattle.lines.proofs.scan_text.Reads as scan-text-reads
 
 empty-requires : tie.Need-empty-requires
 empty-requires c κs = search needs

@@ -1,19 +1,13 @@
 -- `put_faces` meets its contract. The invariant: the cells from c on have their faces. The measure: c. Assumes nothing.
 use borrow.Author.Needs.{needs}
-use mathlib.Core.Path.{_≡_, refl, sym, ap, _∙_}
-use Prim.Native.Nat.{ℕ, suc, _+_, _-_, _*_, _≤_, _<_}
+use mathlib.Core.Path.{_≡_, refl, _∙_}
+use Prim.Native.Nat.{_-_, _<_}
 use native.Mathlib.Omega.{arith}
-use lib.ListN.{length, getD, take, drop}
+use lib.ListN.{length}
 use Rattle.table.specs.Table.{cellsOf}
 use Rattle.intake.proofs.Faces.{Facing, facing-none, facing-more, facing-all}
 use Rattle.intake.proofs.put_faces.Statement.{statement}
 use Rattle.intake.proofs.put_faces.Tie as tie
-use Rattle.intake.proofs.put_faces.Reads as reads
-use Rattle.intake.proofs.put_faces.Lts as lts
-use Rattle.intake.proofs.face_numbers.Reads as face-numbers-reads
-use Rattle.table.proofs.Table.dim.Reads as dim-reads
-use Rattle.table.proofs.Table.faces.Reads as faces-reads
-use Rattle.table.proofs.Table.put_faces.Reads as put-faces-reads
 
 abbrev Inv-loop : tie.InvT-loop
 Inv-loop t₀ m c₀ t c = (length t ≡ length t₀) × Facing (cellsOf t₀) t₀ m t c
@@ -62,7 +56,8 @@ loop-again c =
     let i = d .before .before in
     let l = i .before .loop in (
       p .put-faces .ensures .size ∙ l .inv .0,
-      facing-more _ _ _ _ _ (l .inv .1) _ _ _ _ (i .loop-test .taken) (d .dim .ensures) (f .faces .ensures) (n .face-numbers .ensures) (p .put-faces .ensures),
+      facing-more _ _ _ _ _ (l .inv .1) _ _ _ _ (i .loop-test .taken) (d .dim .ensures) (f .faces .ensures) (n .face-numbers .ensures)
+          (p .put-faces .ensures),
     )
 
 same-length : tie.Need-same-length Inv-loop μ-loop

@@ -1,19 +1,15 @@
 -- `sweep` meets its contract. The invariant: the cells from c on have their facets. The measure: twice the free records, and c; a facet
 -- that comes in takes one record, and moves c up by one. Assumes nothing.
 use borrow.Author.Needs.{needs}
-use mathlib.Core.Path.{_≡_, refl, sym, ap, _∙_}
-use Prim.Native.Nat.{ℕ, suc, _+_, _-_, _*_, _≤_, _<_}
+use mathlib.Core.Path.{_≡_, refl, _∙_}
+use Prim.Native.Nat.{_+_, _-_, _*_}
 use native.Mathlib.Omega.{arith}
-use lib.ListN.{length, getD, take, drop}
+use lib.ListN.{length}
 use Rattle.table.specs.Table.{cellsOf}
 use Rattle.intake.specs.Steps.{SweepsCell}
 use Rattle.intake.proofs.Facets.{CellsTo, cells-none, cells-more, cells-full, cells-all, same-room}
 use Rattle.intake.proofs.sweep.Statement.{statement}
 use Rattle.intake.proofs.sweep.Tie as tie
-use Rattle.intake.proofs.sweep.Reads as reads
-use Rattle.intake.proofs.sweep.Lts as lts
-use Rattle.intake.proofs.take_facets.Reads as take-facets-reads
-use Rattle.table.proofs.Table.room.Reads as room-reads
 
 abbrev Inv-loop : tie.InvT-loop
 Inv-loop t₀ before room m₀ c₀ t m c = (room ≡ cellsOf t₀) × (length t ≡ length t₀) × CellsTo (cellsOf t₀) t₀ before t m c
@@ -42,7 +38,8 @@ same-length c = search needs
 -- the room is that of the table at first
 here :
     (k : tie.After-take-facets Inv-loop μ-loop) → let l = k .before .before .before in
-    SweepsCell (cellsOf (l .before .before .before .before .args .t .now)) (l .loop .t) (k .take-facets .last .0) (l .loop .c - 1) (l .loop .m) (k .take-facets .result)
+    SweepsCell (cellsOf (l .before .before .before .before .args .t .now)) (l .loop .t) (k .take-facets .last .0) (l .loop .c - 1)
+    (l .loop .m) (k .take-facets .result)
 here k =
     let l = k .before .before .before in
     same-room (l .before .before .before .before .args .t .now) (l .loop .inv .1) (k .take-facets .ensures)
@@ -76,8 +73,12 @@ loop-again : tie.Need-loop-again Inv-loop μ-loop
 loop-again c =
     let k = c .before .before .before in
     let i = k .before .before in
-    let l = i .before .loop in
-    (l .inv .0, k .take-facets .kept .0 ∙ l .inv .1, cells-more _ _ _ _ _ _ (l .inv .2) _ _ (i .loop-test .taken) (here k) (omega (arith, c .if1 .left, l .inv .0)))
+    let l = i .before .loop in (
+      l .inv .0,
+      k .take-facets .kept .0 ∙ l .inv .1,
+      cells-more _ _ _ _ _ _ (l .inv .2) _ _ (i .loop-test .taken) (here k)
+          (omega (arith, c .if1 .left, l .inv .0)),
+    )
 
 same-length-2 : tie.Need-same-length-2 Inv-loop μ-loop
 same-length-2 c = search needs

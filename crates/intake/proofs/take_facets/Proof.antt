@@ -1,23 +1,15 @@
 -- `take_facets` meets its contract. The invariant: the facets at the places below j are taken in. The measure: the places left.
 -- Assumes nothing.
 use borrow.Author.Needs.{needs}
-use mathlib.Core.Path.{_≡_, refl, sym, ap, _∙_}
-use Prim.Native.Nat.{ℕ, suc, _+_, _-_, _*_, _≤_, _<_}
+use mathlib.Core.Path.{_≡_, refl, _∙_}
+use Prim.Native.Nat.{_-_, _<_}
 use native.Mathlib.Omega.{arith}
-use lib.ListN.{length, getD, take, drop}
+use lib.ListN.{length}
 use Rattle.table.specs.Kind.{used}
 use Rattle.table.specs.Table.{cellsOf}
 use Rattle.intake.proofs.Facets.{FacetsTo, facets-none, facets-more, facets-full, facets-all, facets-low}
 use Rattle.intake.proofs.take_facets.Statement.{statement}
 use Rattle.intake.proofs.take_facets.Tie as tie
-use Rattle.intake.proofs.take_facets.Reads as reads
-use Rattle.intake.proofs.take_facets.Lts as lts
-use Rattle.corners.proofs.take_in.Reads as take-in-reads
-use Rattle.corners.proofs.without.Reads as without-reads
-use Rattle.table.proofs.Table.dim.Reads as dim-reads
-use Rattle.table.proofs.Table.faces.Reads as faces-reads
-use Rattle.table.proofs.Table.room.Reads as room-reads
-use Rattle.table.proofs.Table.used.Reads as used-reads
 
 abbrev Inv-loop : tie.InvT-loop
 Inv-loop t₀ c before p used words room m₀ j₀ t m j = (length t ≡ length t₀) × FacetsTo (cellsOf t₀) t₀ c before t m j

@@ -1,16 +1,8 @@
 -- `take_line` meets its contract: the sorted numbers are the record of the line's cell. Assumes nothing.
 use borrow.Author.Needs.{needs}
-use mathlib.Core.Path.{_≡_, refl, sym, ap, _∙_}
-use Prim.Native.Nat.{ℕ, suc, _+_, _-_, _*_, _≤_, _<_}
-use native.Mathlib.Omega.{arith}
-use lib.ListN.{length, getD, take, drop}
-use borrow.Author.Needs.{needs}
+use Prim.Native.Nat.{_-_}
 use Rattle.intake.proofs.take_line.Statement.{statement}
 use Rattle.intake.proofs.take_line.Tie as tie
-use Rattle.intake.proofs.take_line.Reads as reads
-use Rattle.intake.proofs.take_line.Lts as lts
-use Rattle.corners.proofs.sorted.Reads as sorted-reads
-use Rattle.corners.proofs.take_in.Reads as take-in-reads
 
 sorted-requires : tie.Need-sorted-requires
 sorted-requires c κs = search needs

@@ -1,19 +1,14 @@
 -- `take_lines` meets its contract. The invariant: the lines up to a place are taken in. The measure: the bytes left. Assumes nothing.
 use borrow.Author.Needs.{needs}
-use mathlib.Core.Path.{_≡_, refl, sym, ap, _∙_}
-use Prim.Native.Nat.{ℕ, suc, _+_, _-_, _*_, _≤_, _<_}
+use mathlib.Core.Path.{_≡_, refl, _∙_}
+use Prim.Native.Nat.{_-_, _≤_}
 use native.Mathlib.Omega.{arith}
-use lib.ListN.{length, getD, take, drop}
+use lib.ListN.{length, take}
 use Rattle.table.specs.Table.{cellsOf}
 use Rattle.lines.specs.Scans.{ReadsLine}
 use Rattle.intake.proofs.Gatherings.{Reached, reached-none, reached-room, line-some, line-fit-small, reached-more, too-many, all-reached}
 use Rattle.intake.proofs.take_lines.Statement.{statement}
 use Rattle.intake.proofs.take_lines.Tie as tie
-use Rattle.intake.proofs.take_lines.Reads as reads
-use Rattle.intake.proofs.take_lines.Lts as lts
-use Rattle.intake.proofs.take_line.Reads as take-line-reads
-use Rattle.lines.proofs.read_line.Reads as read-line-reads
-use Rattle.table.proofs.Table.room.Reads as room-reads
 
 abbrev Inv-loop : tie.InvT-loop
 Inv-loop t₀ text start n room m₀ at₀ t m at = (length t ≡ length t₀) × Reached text n (cellsOf t₀) t at m
@@ -79,7 +74,8 @@ loop-again c =
     let r = k .before .before .before in
     let l = r .before .before in (
       k .take-line .kept .0 ∙ l .loop .inv .0,
-      reached-more _ _ _ _ _ _ (l .loop .inv .1) (asked l .pre .4) _ _ (line r) _ _ (k .take-line .ensures) (omega (arith, c .if1 .left, l .before .room .ensures)),
+      reached-more _ _ _ _ _ _ (l .loop .inv .1) (asked l .pre .4) _ _ (line r) _ _ (k .take-line .ensures)
+          (omega (arith, c .if1 .left, l .before .room .ensures)),
     )
 
 same-length-2 : tie.Need-same-length-2 Inv-loop μ-loop

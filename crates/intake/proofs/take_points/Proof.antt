@@ -1,9 +1,9 @@
 -- `take_points` meets its contract. The invariant: the points below c are taken in. The measure: the points left. Assumes nothing.
 use borrow.Author.Needs.{needs}
-use mathlib.Core.Path.{_≡_, refl, sym, ap, _∙_}
-use Prim.Native.Nat.{ℕ, suc, _+_, _-_, _*_, _≤_, _<_}
+use mathlib.Core.Path.{_≡_, refl, _∙_}
+use Prim.Native.Nat.{_-_, _≤_}
 use native.Mathlib.Omega.{arith}
-use lib.ListN.{length, getD, take, drop}
+use lib.ListN.{length}
 use mathlib.Core.List.{[]}
 use Rattle.table.specs.Table.{cellsOf}
 use Rattle.partlist.specs.Sweep.{pointsFrom}
@@ -11,9 +11,6 @@ use Rattle.corners.specs.Scratch.{Kept}
 use Rattle.intake.proofs.Points.{points-none, points-more, points-all}
 use Rattle.intake.proofs.take_points.Statement.{statement}
 use Rattle.intake.proofs.take_points.Tie as tie
-use Rattle.intake.proofs.take_points.Reads as reads
-use Rattle.intake.proofs.take_points.Lts as lts
-use Rattle.table.proofs.Table.put.Reads as put-reads
 
 abbrev Inv-loop : tie.InvT-loop
 Inv-loop t₀ n c₀ t c = (c ≤ n) × (length t ≡ length t₀) × Kept (cellsOf t₀) t (pointsFrom 0 c)

@@ -1,15 +1,12 @@
 -- `fits` meets its contract. The invariant: the numbers passed fit. The measure: the numbers left. Assumes nothing.
 use borrow.Author.Needs.{needs}
-use mathlib.Core.Path.{_≡_, refl, sym, ap, _∙_}
-use Prim.Native.Nat.{ℕ, suc, _+_, _-_, _*_, _≤_, _<_}
+use mathlib.Core.Path.{sym, _∙_}
+use Prim.Native.Nat.{_-_, _≤_}
 use native.Mathlib.Omega.{arith}
-use lib.ListN.{length, getD, take, drop}
+use lib.ListN.{length}
 use Rattle.partlist.proofs.Indices.{FitBelow, fit-none, fit-more, too-large, not-once, taken-fits, taken-unfit}
 use Rattle.lines.proofs.fits.Statement.{statement}
 use Rattle.lines.proofs.fits.Tie as tie
-use Rattle.lines.proofs.fits.Reads as reads
-use Rattle.lines.proofs.fits.Lts as lts
-use Rattle.lines.proofs.repeated.Reads as repeated-reads
 
 abbrev Inv-loop : tie.InvT-loop
 Inv-loop count n numbers i₀ i = (i ≤ count) × FitBelow n numbers i

@@ -1,14 +1,10 @@
 -- `repeated` meets its contract. The invariant: none of the numbers passed is number i. The measure: the places left. Assumes nothing.
 use borrow.Author.Needs.{needs}
-use mathlib.Core.Path.{_≡_, refl, sym, ap, _∙_}
-use Prim.Native.Nat.{ℕ, suc, _+_, _-_, _*_, _≤_, _<_}
+use Prim.Native.Nat.{_-_, _≤_}
 use native.Mathlib.Omega.{arith}
-use lib.ListN.{length, getD, take, drop}
 use Rattle.partlist.proofs.Indices.{Different, different-none, different-more, repeats, repeats-none}
 use Rattle.lines.proofs.repeated.Statement.{statement}
 use Rattle.lines.proofs.repeated.Tie as tie
-use Rattle.lines.proofs.repeated.Reads as reads
-use Rattle.lines.proofs.repeated.Lts as lts
 
 abbrev Inv-loop : tie.InvT-loop
 Inv-loop i numbers j₀ j = (j ≤ i) × Different numbers i j

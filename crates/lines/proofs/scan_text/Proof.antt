@@ -3,18 +3,13 @@
 use borrow.Author.Needs.{needs}
 use mathlib.Core.Path.{_≡_, subst}
 use borrow.Author.Tests.{not-true, not-false}
-use Prim.Native.Nat.{ℕ, suc, _+_, _-_, _*_, _≤_, _<_}
+use Prim.Native.Nat.{ℕ, _-_, _≤_, _<_}
 use native.Mathlib.Omega.{arith}
-use lib.ListN.{length, getD, take, drop}
+use lib.ListN.{length, take}
 use Rattle.lines.specs.Scans.{Opens, ReadsLine, Scanned}
 use Rattle.lines.proofs.Wholes.{Onto, no-count-told, opens-told, onto-first, onto-more, all-read, line-missing, unfit, still-fit}
 use Rattle.lines.proofs.scan_text.Statement.{statement}
 use Rattle.lines.proofs.scan_text.Tie as tie
-use Rattle.lines.proofs.scan_text.Reads as reads
-use Rattle.lines.proofs.scan_text.Lts as lts
-use Rattle.lines.proofs.fits.Reads as fits-reads
-use Rattle.lines.proofs.read_count.Reads as read-count-reads
-use Rattle.lines.proofs.read_line.Reads as read-line-reads
 
 abbrev Inv-loop : tie.InvT-loop
 Inv-loop text n start at₀ fit₀ at fit = Opens text n start × Onto text n at fit
@@ -76,8 +71,11 @@ loop-less c = fewer (c .before)
 loop-again : tie.Need-loop-again Inv-loop μ-loop
 loop-again c =
     let e = c .before .before .before in
-    let l = e .before .before .before .before .loop in
-    (l .inv .0, unfit _ _ _ (l .fit) (c .before .fits2 .result) (not-true _ (c .if2 .taken)) (onto-more _ _ _ _ (l .inv .1) _ _ _ (line e) (c .before .fits2 .ensures)))
+    let l = e .before .before .before .before .loop in (
+      l .inv .0,
+      unfit _ _ _ (l .fit) (c .before .fits2 .result) (not-true _ (c .if2 .taken))
+          (onto-more _ _ _ _ (l .inv .1) _ _ _ (line e) (c .before .fits2 .ensures)),
+    )
 
 loop-less-2 : tie.Need-loop-less-2 Inv-loop μ-loop
 loop-less-2 c = fewer (c .before)
@@ -85,8 +83,11 @@ loop-less-2 c = fewer (c .before)
 loop-again-2 : tie.Need-loop-again-2 Inv-loop μ-loop
 loop-again-2 c =
     let e = c .before .before .before in
-    let l = e .before .before .before .before .loop in
-    (l .inv .0, still-fit _ _ _ (l .fit) (c .before .fits2 .result) (not-false _ (c .if2 .left)) (onto-more _ _ _ _ (l .inv .1) _ _ _ (line e) (c .before .fits2 .ensures)))
+    let l = e .before .before .before .before .loop in (
+      l .inv .0,
+      still-fit _ _ _ (l .fit) (c .before .fits2 .result) (not-false _ (c .if2 .left))
+          (onto-more _ _ _ _ (l .inv .1) _ _ _ (line e) (c .before .fits2 .ensures)),
+    )
 
 returns-2 : tie.Need-returns-2 Inv-loop μ-loop
 returns-2 c = no-count-told _ _ (c .before .before .read-count .ensures) (c .enum-told .given .1)

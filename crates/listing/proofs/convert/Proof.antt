@@ -1,18 +1,10 @@
 -- `convert` meets its contract: an accepted list leaves a valid table, which is written; else the refusal's line. Assumes nothing.
 use borrow.Author.Needs.{needs}
-use mathlib.Core.Path.{_≡_, refl, sym, ap, _∙_}
-use Prim.Native.Nat.{ℕ, suc, _+_, _-_, _*_, _≤_, _<_}
-use native.Mathlib.Omega.{arith}
-use lib.ListN.{length, getD, take, drop}
-use borrow.Author.Needs.{needs}
+use mathlib.Core.Path.{sym, _∙_}
+use Prim.Native.Nat.{_-_}
 use Rattle.listing.proofs.Fronts.{blank-verdict, blank-left, blank-valid, converted-file, converted-line}
 use Rattle.listing.proofs.convert.Statement.{statement}
 use Rattle.listing.proofs.convert.Tie as tie
-use Rattle.listing.proofs.convert.Reads as reads
-use Rattle.listing.proofs.convert.Lts as lts
-use Rattle.intake.proofs.import.Reads as import-reads
-use Rattle.listing.proofs.put_file.Reads as put-file-reads
-use Rattle.listing.proofs.put_line.Reads as put-line-reads
 
 import-requires : tie.Need-import-requires
 import-requires c κs = search needs

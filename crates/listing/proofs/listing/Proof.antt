@@ -1,17 +1,9 @@
 -- `listing` meets its contract: a text that is too long, and one that is taken into a blank table. Assumes nothing.
 use borrow.Author.Needs.{needs}
-use mathlib.Core.Path.{_≡_, refl, sym, ap, _∙_}
-use Prim.Native.Nat.{ℕ, suc, _+_, _-_, _*_, _≤_, _<_}
-use native.Mathlib.Omega.{arith}
-use lib.ListN.{length, getD, take, drop}
-use borrow.Author.Needs.{needs}
+use Prim.Native.Nat.{_-_}
 use Rattle.listing.proofs.Fronts.{lists-long, lists-short}
 use Rattle.listing.proofs.listing.Statement.{statement}
 use Rattle.listing.proofs.listing.Tie as tie
-use Rattle.listing.proofs.listing.Reads as reads
-use Rattle.listing.proofs.listing.Lts as lts
-use Rattle.listing.proofs.convert.Reads as convert-reads
-use Rattle.listing.proofs.put_line.Reads as put-line-reads
 
 put-line-requires : tie.Need-put-line-requires
 put-line-requires c κs = search needs

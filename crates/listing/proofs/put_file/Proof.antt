@@ -1,16 +1,9 @@
 -- `put_file` meets its contract: a valid table's file has room, so the writer accepts. Assumes nothing.
 use borrow.Author.Needs.{needs}
-use mathlib.Core.Path.{_≡_, refl, sym, ap, _∙_}
-use Prim.Native.Nat.{ℕ, suc, _+_, _-_, _*_, _≤_, _<_}
-use native.Mathlib.Omega.{arith}
-use lib.ListN.{length, getD, take, drop}
-use borrow.Author.Needs.{needs}
+use Prim.Native.Nat.{_-_}
 use Rattle.listing.proofs.Fronts.{file-front, never-refused}
 use Rattle.listing.proofs.put_file.Statement.{statement}
 use Rattle.listing.proofs.put_file.Tie as tie
-use Rattle.listing.proofs.put_file.Reads as reads
-use Rattle.listing.proofs.put_file.Lts as lts
-use Rattle.writer.proofs.write.Reads as write-reads
 
 write-requires : tie.Need-write-requires
 write-requires c κs = search needs

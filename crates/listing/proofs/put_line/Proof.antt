@@ -1,18 +1,15 @@
 -- `put_line` meets its contract. The invariant: the first i bytes are copied. The measure: the bytes left. Assumes nothing.
 use borrow.Author.Needs.{needs}
-use mathlib.Core.Path.{_≡_, refl, sym, ap, _∙_}
-use Prim.Native.Nat.{ℕ, suc, _+_, _-_, _*_, _≤_, _<_}
+use mathlib.Core.Path.{_≡_, _∙_}
+use Prim.Native.Nat.{_-_, _≤_, _<_}
 use native.Mathlib.Omega.{arith}
-use lib.ListN.{length, getD, take, drop}
+use lib.ListN.{length}
 use lib.ListN.{length-set}
 use Rattle.sketch.specs.Form.{longest}
 use Rattle.report.specs.Lines.{room}
 use Rattle.listing.proofs.Fronts.{Copied, copied-none, copied-more, copied-all}
 use Rattle.listing.proofs.put_line.Statement.{statement}
 use Rattle.listing.proofs.put_line.Tie as tie
-use Rattle.listing.proofs.put_line.Reads as reads
-use Rattle.listing.proofs.put_line.Lts as lts
-use Rattle.report.proofs.refused.Reads as refused-reads
 
 abbrev Inv-loop : tie.InvT-loop
 Inv-loop target₀ bytes len i₀ target i = (i ≤ len) × (length target ≡ longest) × Copied bytes i target
