@@ -57,11 +57,11 @@ refuses 'is not built' install DESTDIR="$place/none"
 
 # Plain make builds all that install needs.
 makes
-makes install DESTDIR="$place/dest" PREFIX=/opt/bt
+makes install DESTDIR="$place/dest" PREFIX=/srv/bt
 for file in lib/libbumbleturf.a lib/libbumbleturf.so include/bumbleturf.h bin/holes bin/parts lib/pkgconfig/bumbleturf.pc; do
-    [ -f "$place/dest/opt/bt/$file" ] || fail "install leaves out $file"
+    [ -f "$place/dest/srv/bt/$file" ] || fail "install leaves out $file"
 done
-makes uninstall DESTDIR="$place/dest" PREFIX=/opt/bt
+makes uninstall DESTDIR="$place/dest" PREFIX=/srv/bt
 [ -z "$(files "$place/dest")" ] || fail "uninstall leaves $(files "$place/dest")"
 
 # A checkout as a place, this one by any of its names or another one; nothing is touched.
@@ -75,9 +75,9 @@ for verb in install uninstall; do
         refuses 'PREFIX is a checkout' $verb $words
     done
     refuses 'must start with /' $verb PREFIX=here
-    refuses 'must start with /' $verb PREFIX=/opt/bt LIBDIR=lib
-    refuses 'a space' $verb DESTDIR="$place/none" PREFIX='/opt/b t'
-    refuses 'a space' $verb DESTDIR="$place/none" PREFIX=/opt/bt LIBDIR="/opt/b't"
+    refuses 'must start with /' $verb PREFIX=/srv/bt LIBDIR=lib
+    refuses 'a space' $verb DESTDIR="$place/none" PREFIX='/srv/b t'
+    refuses 'a space' $verb DESTDIR="$place/none" PREFIX=/srv/bt LIBDIR="/srv/b't"
 done
 files "$copy" | cmp - "$place/before"
 cmp include/bumbleturf.h "$copy/include/bumbleturf.h"
@@ -85,9 +85,9 @@ cmp include/bumbleturf.h "$copy/include/bumbleturf.h"
 printf 'make: places: ok\n'
 
 # LIBDIR below the prefix and beside it; a DESTDIR with a space is only a place to put things.
-makes install DESTDIR="$place/with a space" PREFIX=/opt/bt LIBDIR=/opt/bt/lib/x86_64
-grep -qx 'libdir=${prefix}/lib/x86_64' "$place/with a space/opt/bt/lib/x86_64/pkgconfig/bumbleturf.pc" || fail 'LIBDIR below PREFIX'
-makes uninstall DESTDIR="$place/with a space" PREFIX=/opt/bt LIBDIR=/opt/bt/lib/x86_64
+makes install DESTDIR="$place/with a space" PREFIX=/srv/bt LIBDIR=/srv/bt/lib/x86_64
+grep -qx 'libdir=${prefix}/lib/x86_64' "$place/with a space/srv/bt/lib/x86_64/pkgconfig/bumbleturf.pc" || fail 'LIBDIR below PREFIX'
+makes uninstall DESTDIR="$place/with a space" PREFIX=/srv/bt LIBDIR=/srv/bt/lib/x86_64
 [ -z "$(files "$place/with a space")" ] || fail 'uninstall with LIBDIR leaves something'
 makes install PREFIX="$place/bt" LIBDIR="$place/lib64"
 cmp "$archive" "$place/lib64/libbumbleturf.a"

@@ -35,10 +35,10 @@ class Session:
     """One table, and the calls on it by their names on the page; each answers what stands after ->."""
 
     def __init__(self, library):
-        self.library = library
+        self.kernel = library
 
     def call(self, name, *rest):
-        return getattr(self.library, "bt_" + name)(self.words, ctypes.c_size_t(len(self.words)), *rest)
+        return getattr(self.kernel, "bt_" + name)(self.words, ctypes.c_size_t(len(self.words)), *rest)
 
     def lent(self, kind, values):
         values = list(values)
