@@ -9,9 +9,6 @@ use Rattle.audit.proofs.Verdicts.{audit-refuses-length, audit-accepts, 
 use Rattle.audit.proofs.audit.Statement.{statement}
 use Rattle.audit.proofs.audit.Tie as tie
 
-fits-requires : tie.Need-fits-requires
-fits-requires c κs = search needs
-
 returns : tie.Need-returns
 returns c =
     audit-refuses-length (c .before .before .before .args .t .now) (sym (c .before .fits2 .ensures) ∙ not-true _ (c .if1 .taken))
@@ -20,12 +17,6 @@ first-breach-requires : tie.Need-first-breach-requires
 first-breach-requires c κs =
     let t = c .before .before .before .args .t .now in
     sized-is-sized t (sym (c .before .fits2 .ensures) ∙ not-false _ (c .if1 .left))
-
-enum-told : tie.Need-enum-told
-enum-told c = search needs
-
-enum-known-found : tie.Need-enum-known-found
-enum-known-found c = search needs
 
 returns-2 : tie.Need-returns-2
 returns-2 c =
@@ -44,11 +35,4 @@ returns-3 c =
 pub audit-spec : {M : Type 1} → statement M
 audit-spec =
     tie.close
-    (tie.spec
-    fits-requires
-    returns
-    first-breach-requires
-    enum-told
-    enum-known-found
-    returns-2
-    returns-3)
+    (tie.spec (λ c κs. search needs) returns first-breach-requires (λ c. search needs) (λ c. search needs) returns-2 returns-3)

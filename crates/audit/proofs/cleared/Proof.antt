@@ -19,17 +19,8 @@ abbrev μc : tie.MeasureT-loop
 loop-holds : tie.Need-loop-holds Ic μc
 loop-holds c = (search needs, scan-zero _)
 
-clears-requires : tie.Need-clears-requires Ic μc
-clears-requires c κs = search needs
-
 returns : tie.Need-returns Ic μc
 returns c = c .before .before .before .loop .inv
-
-add-c : tie.Need-add-c Ic μc
-add-c c = search needs
-
-loop-less : tie.Need-loop-less Ic μc
-loop-less c = search needs
 
 loop-again : tie.Need-loop-again Ic μc
 loop-again c =
@@ -39,4 +30,6 @@ returns-2 : tie.Need-returns-2 Ic μc
 returns-2 c = c .before .loop .inv
 
 pub cleared-spec : {M : Type 1} → statement M
-cleared-spec = tie.close (tie.spec Ic μc loop-holds clears-requires returns add-c loop-less loop-again returns-2)
+cleared-spec =
+    tie.close
+    (tie.spec Ic μc loop-holds (λ c κs. search needs) returns (λ c. search needs) (λ c. search needs) loop-again returns-2)

@@ -12,9 +12,6 @@ use Rattle.audit.specs.Audit.{lawPlaces}
 use Rattle.audit.proofs.clears.Statement.{statement}
 use Rattle.audit.proofs.clears.Tie as tie
 
-dim-requires : tie.Need-dim-requires
-dim-requires c κs = search needs
-
 -- what the pass asks where an arm hands it dimension q, u used places and m places of the law
 abbrev Asked : tie.After-dim → ℕ → ℕ → ℕ → Type 0
 Asked c q u m =
@@ -48,52 +45,12 @@ clears-as-requires-7 c κs = matched (c .before) 6 (c .match .keys7) (inl (omega
 clears-as-requires-8 : tie.Need-clears-as-requires-8
 clears-as-requires-8 c κs = matched (c .before) freeMark (c .match .keys8) (inr refl)
 
-returns : tie.Need-returns
-returns c = search needs
-
-returns-2 : tie.Need-returns-2
-returns-2 c = search needs
-
-returns-3 : tie.Need-returns-3
-returns-3 c = search needs
-
-returns-4 : tie.Need-returns-4
-returns-4 c = search needs
-
-returns-5 : tie.Need-returns-5
-returns-5 c = search needs
-
-returns-6 : tie.Need-returns-6
-returns-6 c = search needs
-
-returns-7 : tie.Need-returns-7
-returns-7 c = search needs
-
-returns-8 : tie.Need-returns-8
-returns-8 c = search needs
-
 returns-9 : tie.Need-returns-9
 returns-9 c = λ e. absurd (false≢true e)
 
 pub clears-spec : {M : Type 1} → statement M
 clears-spec =
     tie.close
-    (tie.spec
-    dim-requires
-    clears-as-requires
-    clears-as-requires-2
-    clears-as-requires-3
-    clears-as-requires-4
-    clears-as-requires-5
-    clears-as-requires-6
-    clears-as-requires-7
-    clears-as-requires-8
-    returns
-    returns-2
-    returns-3
-    returns-4
-    returns-5
-    returns-6
-    returns-7
-    returns-8
-    returns-9)
+    (tie.spec (λ c κs. search needs) clears-as-requires clears-as-requires-2 clears-as-requires-3 clears-as-requires-4 clears-as-requires-5
+    clears-as-requires-6 clears-as-requires-7 clears-as-requires-8 (λ c. search needs) (λ c. search needs) (λ c. search needs)
+    (λ c. search needs) (λ c. search needs) (λ c. search needs) (λ c. search needs) (λ c. search needs) returns-9)

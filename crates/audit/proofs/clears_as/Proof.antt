@@ -55,23 +55,8 @@ Ij t n c p used places faces bad₀ j₀ bad j =
 abbrev μj : tie.MeasureT-loop4
 μj t n c p used places faces bad₀ j₀ bad j = places - j
 
-faces-requires : tie.Need-faces-requires Iu μu Ir μr Id μd Il μl Ij μj
-faces-requires c κs = search needs
-
 loop-holds : tie.Need-loop-holds Iu μu Ir μr Id μd Il μl Ij μj
 loop-holds c = λ e. (e, λ k h u. omega arith)
-
-mul-bad : tie.Need-mul-bad Iu μu Ir μr Id μd Il μl Ij μj
-mul-bad c = search needs
-
-array-read-bad : tie.Need-array-read-bad Iu μu Ir μr Id μd Il μl Ij μj
-array-read-bad c = search needs
-
-add-j : tie.Need-add-j Iu μu Ir μr Id μd Il μl Ij μj
-add-j c = search needs
-
-loop-less : tie.Need-loop-less Iu μu Ir μr Id μd Il μl Ij μj
-loop-less c = search needs
 
 loop-again : tie.Need-loop-again Iu μu Ir μr Id μd Il μl Ij μj
 loop-again c = one-more _ _ _ _ _ _ (c .before .loop .inv) (λ e u. e)
@@ -94,23 +79,8 @@ loop2-holds c =
       λ k h. omega arith,
     )
 
-mul-if1 : tie.Need-mul-if1 Iu μu Ir μr Id μd Il μl Ij μj
-mul-if1 c = search needs
-
-array-read-if1 : tie.Need-array-read-if1 Iu μu Ir μr Id μd Il μl Ij μj
-array-read-if1 c = search needs
-
-cast-if1 : tie.Need-cast-if1 Iu μu Ir μr Id μd Il μl Ij μj
-cast-if1 c = search needs
-
 returns : tie.Need-returns Iu μu Ir μr Id μd Il μl Ij μj
 returns c = λ e. absurd (false≢true e)
-
-add-j-2 : tie.Need-add-j-2 Iu μu Ir μr Id μd Il μl Ij μj
-add-j-2 c = search needs
-
-loop2-less : tie.Need-loop2-less Iu μu Ir μr Id μd Il μl Ij μj
-loop2-less c = search needs
 
 loop2-again : tie.Need-loop2-again Iu μu Ir μr Id μd Il μl Ij μj
 loop2-again c =
@@ -120,15 +90,6 @@ loop2-again c =
 loop3-holds : tie.Need-loop3-holds Iu μu Ir μr Id μd Il μl Ij μj
 loop3-holds c = λ e. (e, λ k h. omega arith)
 
-mul-f : tie.Need-mul-f Iu μu Ir μr Id μd Il μl Ij μj
-mul-f c = search needs
-
-array-read-f : tie.Need-array-read-f Iu μu Ir μr Id μd Il μl Ij μj
-array-read-f c = search needs
-
-cast-f : tie.Need-cast-f Iu μu Ir μr Id μd Il μl Ij μj
-cast-f c = search needs
-
 dim-requires : tie.Need-dim-requires Iu μu Ir μr Id μd Il μl Ij μj
 dim-requires c κs =
     let i = c .before .before .before .loop2 .inv in
@@ -137,66 +98,27 @@ dim-requires c κs =
 sub-bad : tie.Need-sub-bad Iu μu Ir μr Id μd Il μl Ij μj
 sub-bad c = used-above (c .before .before .before .before .loop2 .inv .0) _ (c .before .loop3-test .taken)
 
-add-j-3 : tie.Need-add-j-3 Iu μu Ir μr Id μd Il μl Ij μj
-add-j-3 c = search needs
-
-loop3-less : tie.Need-loop3-less Iu μu Ir μr Id μd Il μl Ij μj
-loop3-less c = search needs
-
 loop3-again : tie.Need-loop3-again Iu μu Ir μr Id μd Il μl Ij μj
 loop3-again c = one-more _ _ _ _ _ _ (c .before .before .loop3 .inv) (λ e. sym (c .dim .ensures) ∙ e)
 
 loop4-holds : tie.Need-loop4-holds Iu μu Ir μr Id μd Il μl Ij μj
 loop4-holds c = λ e. (e, λ k h. omega arith)
 
-mul-f-2 : tie.Need-mul-f-2 Iu μu Ir μr Id μd Il μl Ij μj
-mul-f-2 c = search needs
-
-array-read-f-2 : tie.Need-array-read-f-2 Iu μu Ir μr Id μd Il μl Ij μj
-array-read-f-2 c = search needs
-
-cast-f-2 : tie.Need-cast-f-2 Iu μu Ir μr Id μd Il μl Ij μj
-cast-f-2 c = search needs
-
 loop5-holds : tie.Need-loop5-holds Iu μu Ir μr Id μd Il μl Ij μj
 loop5-holds c = λ e. (e, λ k h. omega arith)
-
-mul-e : tie.Need-mul-e Iu μu Ir μr Id μd Il μl Ij μj
-mul-e c = search needs
-
-array-read-e : tie.Need-array-read-e Iu μu Ir μr Id μd Il μl Ij μj
-array-read-e c = search needs
-
-cast-e : tie.Need-cast-e Iu μu Ir μr Id μd Il μl Ij μj
-cast-e c = search needs
 
 face-requires : tie.Need-face-requires Iu μu Ir μr Id μd Il μl Ij μj
 face-requires c κs =
     let i = c .before .before .before .before .before .before .before .loop2 .inv in
     (omega (arith, i .0 .cells, i .1 (c .before .before .before .loop4 .j) (omega arith)), search needs)
 
-sub-face : tie.Need-sub-face Iu μu Ir μr Id μd Il μl Ij μj
-sub-face c = search needs
-
 face-requires-2 : tie.Need-face-requires-2 Iu μu Ir μr Id μd Il μl Ij μj
 face-requires-2 c κs =
     let i = c .before .before .before .before .before .before .before .before .loop2 .inv in
     (omega (arith, i .0 .cells, i .1 (c .before .before .loop5 .l) (omega arith)), search needs)
 
-add-l : tie.Need-add-l Iu μu Ir μr Id μd Il μl Ij μj
-add-l c = search needs
-
-loop5-less : tie.Need-loop5-less Iu μu Ir μr Id μd Il μl Ij μj
-loop5-less c = search needs
-
 loop5-again : tie.Need-loop5-again Iu μu Ir μr Id μd Il μl Ij μj
 loop5-again c = one-more _ _ _ _ _ _ (c .before .before .before .loop5 .inv) (λ e. sym (c .before .face .ensures) ∙ e ∙ c .face2 .ensures)
-
-add-j-4 : tie.Need-add-j-4 Iu μu Ir μr Id μd Il μl Ij μj
-add-j-4 c = search needs
-
-loop4-less : tie.Need-loop4-less Iu μu Ir μr Id μd Il μl Ij μj
-loop4-less c = search needs
 
 loop4-again : tie.Need-loop4-again Iu μu Ir μr Id μd Il μl Ij μj
 loop4-again c =
@@ -220,56 +142,9 @@ returns-2 c =
 pub clears-as-spec : {M : Type 1} → statement M
 clears-as-spec =
     tie.close
-    (tie.spec
-    Iu
-    μu
-    Ir
-    μr
-    Id
-    μd
-    Il
-    μl
-    Ij
-    μj
-    faces-requires
-    loop-holds
-    mul-bad
-    array-read-bad
-    add-j
-    loop-less
-    loop-again
-    loop2-holds
-    mul-if1
-    array-read-if1
-    cast-if1
-    returns
-    add-j-2
-    loop2-less
-    loop2-again
-    loop3-holds
-    mul-f
-    array-read-f
-    cast-f
-    dim-requires
-    sub-bad
-    add-j-3
-    loop3-less
-    loop3-again
-    loop4-holds
-    mul-f-2
-    array-read-f-2
-    cast-f-2
-    loop5-holds
-    mul-e
-    array-read-e
-    cast-e
-    face-requires
-    sub-face
-    face-requires-2
-    add-l
-    loop5-less
-    loop5-again
-    add-j-4
-    loop4-less
-    loop4-again
-    returns-2)
+    (tie.spec Iu μu Ir μr Id μd Il μl Ij μj (λ c κs. search needs) loop-holds (λ c. search needs) (λ c. search needs) (λ c. search needs)
+    (λ c. search needs) loop-again loop2-holds (λ c. search needs) (λ c. search needs) (λ c. search needs) returns (λ c. search needs)
+    (λ c. search needs) loop2-again loop3-holds (λ c. search needs) (λ c. search needs) (λ c. search needs) dim-requires sub-bad
+    (λ c. search needs) (λ c. search needs) loop3-again loop4-holds (λ c. search needs) (λ c. search needs) (λ c. search needs) loop5-holds
+    (λ c. search needs) (λ c. search needs) (λ c. search needs) face-requires (λ c. search needs) face-requires-2 (λ c. search needs)
+    (λ c. search needs) loop5-again (λ c. search needs) (λ c. search needs) loop4-again returns-2)

@@ -20,17 +20,8 @@ Inv-loop t₀ k₀ t k = (k ≤ length t₀) × (length t ≡ length t₀) × (t
 abbrev μ-loop : tie.MeasureT-loop
 μ-loop t₀ k₀ t k = length t₀ - k
 
-fits-requires : tie.Need-fits-requires Inv-loop μ-loop
-fits-requires c κs = search needs
-
-same-length : tie.Need-same-length Inv-loop μ-loop
-same-length c = search needs
-
 returns : tie.Need-returns Inv-loop μ-loop
 returns c = empty-refuses (c .before .before .before .before .args .t .now) (sym (c .before .fits2 .ensures) ∙ not-true _ (c .if1 .taken))
-
-loop-holds : tie.Need-loop-holds Inv-loop μ-loop
-loop-holds c = search needs
 
 mul-t : tie.Need-mul-t Inv-loop μ-loop
 mul-t c = omega arith
@@ -47,26 +38,11 @@ loop-less c = omega arith
 loop-again : tie.Need-loop-again Inv-loop μ-loop
 loop-again c = let at = c .before .loop in (omega arith, search needs, ap (λ l. set l (at .k) freeMark) (at .inv .2) ∙ fill-more (at .k) freeMark (c .before .before .before .before .before .before .args .t .now) (omega arith))
 
-same-length-2 : tie.Need-same-length-2 Inv-loop μ-loop
-same-length-2 c = search needs
-
 returns-2 : tie.Need-returns-2 Inv-loop μ-loop
 returns-2 c = let t = c .before .before .before .before .before .before .args .t .now in let at = c .before .loop in empty-accepts t (at .t) (sym (c .before .before .before .fits2 .ensures) ∙ not-false _ (c .before .before .if1 .left)) (filled-is-emptied t (at .t) (at .k) (at .inv .0) (omega arith) (at .inv .2))
 
 pub empty-spec : {M : Type 1} → statement M
 empty-spec =
     tie.close
-    (tie.spec
-    Inv-loop
-    μ-loop
-    fits-requires
-    same-length
-    returns
-    loop-holds
-    mul-t
-    slice-write-t
-    add-k
-    loop-less
-    loop-again
-    same-length-2
-    returns-2)
+    (tie.spec Inv-loop μ-loop (λ c κs. search needs) (λ c. search needs) returns (λ c. search needs) mul-t slice-write-t add-k loop-less
+    loop-again (λ c. search needs) returns-2)

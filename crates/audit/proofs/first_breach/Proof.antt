@@ -42,29 +42,11 @@ Ic t n start found₀ c₀ found c = (found ≡ Sound) × (scan (cellBreach t) c
 abbrev μc : tie.MeasureT-cells
 μc t n start found₀ c₀ found c = n - c
 
-room-requires : tie.Need-room-requires If μf Il μl Ij μj Ic μc
-room-requires c κs = search needs
-
 cleared-requires : tie.Need-cleared-requires If μf Il μl Ij μj Ic μc
 cleared-requires c κs = c .room .ensures
 
 cells-holds : tie.Need-cells-holds If μf Il μl Ij μj Ic μc
 cells-holds c = (refl, c .cleared .ensures .1)
-
-record-sound-requires : tie.Need-record-sound-requires If μf Il μl Ij μj Ic μc
-record-sound-requires c κs = search needs
-
-dim-requires : tie.Need-dim-requires If μf Il μl Ij μj Ic μc
-dim-requires c κs = search needs
-
-used-requires : tie.Need-used-requires If μf Il μl Ij μj Ic μc
-used-requires c κs = search needs
-
-law-places-requires : tie.Need-law-places-requires If μf Il μl Ij μj Ic μc
-law-places-requires c κs = search needs
-
-faces-requires : tie.Need-faces-requires If μf Il μl Ij μj Ic μc
-faces-requires c κs = search needs
 
 loop-holds : tie.Need-loop-holds If μf Il μl Ij μj Ic μc
 loop-holds c =
@@ -87,33 +69,6 @@ loop-holds c =
       scan-zero _,
     )
 
-mul-f : tie.Need-mul-f If μf Il μl Ij μj Ic μc
-mul-f c = search needs
-
-array-read-f : tie.Need-array-read-f If μf Il μl Ij μj Ic μc
-array-read-f c = search needs
-
-cast-f : tie.Need-cast-f If μf Il μl Ij μj Ic μc
-cast-f c = search needs
-
-dim-requires-2 : tie.Need-dim-requires-2 If μf Il μl Ij μj Ic μc
-dim-requires-2 c κs = search needs
-
-cast-if3 : tie.Need-cast-if3 If μf Il μl Ij μj Ic μc
-cast-if3 c = search needs
-
-add-if3 : tie.Need-add-if3 If μf Il μl Ij μj Ic μc
-add-if3 c = search needs
-
-cast-if3-2 : tie.Need-cast-if3-2 If μf Il μl Ij μj Ic μc
-cast-if3-2 c = search needs
-
-add-j : tie.Need-add-j If μf Il μl Ij μj Ic μc
-add-j c = search needs
-
-loop-less : tie.Need-loop-less If μf Il μl Ij μj Ic μc
-loop-less c = search needs
-
 loop-again : tie.Need-loop-again If μf Il μl Ij μj Ic μc
 loop-again c =
     let i = c .before .before .before .before .loop .inv in
@@ -124,66 +79,27 @@ loop2-holds c =
     let i = c .before .loop .inv in
     (i .0, scan-fewer _ _ _ (c .loop-test .left) (i .2), scan-zero _)
 
-mul-f-2 : tie.Need-mul-f-2 If μf Il μl Ij μj Ic μc
-mul-f-2 c = search needs
-
-array-read-f-2 : tie.Need-array-read-f-2 If μf Il μl Ij μj Ic μc
-array-read-f-2 c = search needs
-
-cast-f-2 : tie.Need-cast-f-2 If μf Il μl Ij μj Ic μc
-cast-f-2 c = search needs
-
 loop3-holds : tie.Need-loop3-holds If μf Il μl Ij μj Ic μc
 loop3-holds c = (c .before .loop2 .inv .0, scan-zero _)
 
-mul-e : tie.Need-mul-e If μf Il μl Ij μj Ic μc
-mul-e c = search needs
-
-array-read-e : tie.Need-array-read-e If μf Il μl Ij μj Ic μc
-array-read-e c = search needs
-
-cast-e : tie.Need-cast-e If μf Il μl Ij μj Ic μc
-cast-e c = search needs
-
 face-requires : tie.Need-face-requires If μf Il μl Ij μj Ic μc
 face-requires c κs = (face-known (c .before .before .before .before .before .loop .inv .1) (c .before .before .before .loop2 .inv .1) _ (c .before .before .loop2-test .taken), search needs)
-
-sub-face : tie.Need-sub-face If μf Il μl Ij μj Ic μc
-sub-face c = search needs
 
 face-requires-2 : tie.Need-face-requires-2 If μf Il μl Ij μj Ic μc
 face-requires-2 c κs =
     let known = face-known (c .before .before .before .before .before .before .loop .inv .1) (c .before .before .before .before .loop2 .inv .1) in
     (omega (arith, known _ (c .before .before .before .loop2-test .taken), known (c .before .before .loop3 .l) (omega arith)), search needs)
 
-add-l : tie.Need-add-l If μf Il μl Ij μj Ic μc
-add-l c = search needs
-
-loop3-less : tie.Need-loop3-less If μf Il μl Ij μj Ic μc
-loop3-less c = search needs
-
 loop3-again : tie.Need-loop3-again If μf Il μl Ij μj Ic μc
 loop3-again c =
     let i = c .before .before .before .before .loop3 .inv in
     (i .0, pair-passes (c .before .before .before .before .before .before .before .before .loop .inv .1) (c .before .before .before .before .before .before .loop2 .inv .1) _ _ _ _ (c .before .before .before .before .before .loop2-test .taken) (c .before .before .before .loop3-test .taken) (i .1) (c .before .before .face .ensures) (c .before .face2 .ensures) (c .if4 .left))
-
-add-j-2 : tie.Need-add-j-2 If μf Il μl Ij μj Ic μc
-add-j-2 c = search needs
-
-loop2-less : tie.Need-loop2-less If μf Il μl Ij μj Ic μc
-loop2-less c = search needs
 
 loop2-again : tie.Need-loop2-again If μf Il μl Ij μj Ic μc
 loop2-again c =
     let i = c .before .loop3 .inv in
     let k = c .before .before .before .loop2 .inv in
     (i .0, k .1, place-passes _ _ _ _ (c .loop3-test .left) (i .1) (k .2))
-
-add-c : tie.Need-add-c If μf Il μl Ij μj Ic μc
-add-c c = search needs
-
-cells-less : tie.Need-cells-less If μf Il μl Ij μj Ic μc
-cells-less c = search needs
 
 cells-again : tie.Need-cells-again If μf Il μl Ij μj Ic μc
 cells-again c =
@@ -218,56 +134,10 @@ returns-5 c =
 pub first-breach-spec : {M : Type 1} → statement M
 first-breach-spec =
     tie.close
-    (tie.spec
-    If
-    μf
-    Il
-    μl
-    Ij
-    μj
-    Ic
-    μc
-    room-requires
-    cleared-requires
-    cells-holds
-    record-sound-requires
-    dim-requires
-    used-requires
-    law-places-requires
-    faces-requires
-    loop-holds
-    mul-f
-    array-read-f
-    cast-f
-    dim-requires-2
-    cast-if3
-    add-if3
-    cast-if3-2
-    add-j
-    loop-less
-    loop-again
-    loop2-holds
-    mul-f-2
-    array-read-f-2
-    cast-f-2
-    loop3-holds
-    mul-e
-    array-read-e
-    cast-e
-    face-requires
-    sub-face
-    face-requires-2
-    add-l
-    loop3-less
-    loop3-again
-    add-j-2
-    loop2-less
-    loop2-again
-    add-c
-    cells-less
-    cells-again
-    returns
-    returns-2
-    returns-3
-    returns-4
-    returns-5)
+    (tie.spec If μf Il μl Ij μj Ic μc (λ c κs. search needs) cleared-requires cells-holds (λ c κs. search needs) (λ c κs. search needs)
+    (λ c κs. search needs) (λ c κs. search needs) (λ c κs. search needs) loop-holds (λ c. search needs) (λ c. search needs)
+    (λ c. search needs) (λ c κs. search needs) (λ c. search needs) (λ c. search needs) (λ c. search needs) (λ c. search needs)
+    (λ c. search needs) loop-again loop2-holds (λ c. search needs) (λ c. search needs) (λ c. search needs) loop3-holds (λ c. search needs)
+    (λ c. search needs) (λ c. search needs) face-requires (λ c. search needs) face-requires-2 (λ c. search needs) (λ c. search needs)
+    loop3-again (λ c. search needs) (λ c. search needs) loop2-again (λ c. search needs) (λ c. search needs) cells-again returns returns-2
+    returns-3 returns-4 returns-5)

@@ -10,11 +10,8 @@ use Rattle.audit.proofs.law_places.Tie as tie
 returns : tie.Need-returns
 returns c = (sym (law-places-none _ (c .if1 .taken)), omega arith)
 
-used-requires : tie.Need-used-requires
-used-requires c κs = search needs
-
 returns-2 : tie.Need-returns-2
 returns-2 c = (c .used .ensures .0 ∙ sym (law-places-is _ (c .before .if1 .left)), c .used .ensures .1)
 
 pub law-places-spec : {M : Type 1} → statement M
-law-places-spec = tie.close (tie.spec returns used-requires returns-2)
+law-places-spec = tie.close (tie.spec returns (λ c κs. search needs) returns-2)

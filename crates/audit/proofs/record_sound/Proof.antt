@@ -18,31 +18,16 @@ Inv-loop t c p j₀ j = (j ≤ faces) × (used p ≤ j) × ((k : ℕ) → k < j 
 abbrev μ-loop : tie.MeasureT-loop
 μ-loop t c p j₀ j = faces - j
 
-dim-requires : tie.Need-dim-requires Inv-loop μ-loop
-dim-requires c κs = search needs
-
 returns : tie.Need-returns Inv-loop μ-loop
 returns c = sym (no-kind _ _ _ (c .before .before .dim .ensures) (omega arith) (c .if2 .taken))
 
-used-requires : tie.Need-used-requires Inv-loop μ-loop
-used-requires c κs = search needs
-
 loop-holds : tie.Need-loop-holds Inv-loop μ-loop
 loop-holds c = (search needs, search needs, λ k h u. omega (arith, c .used .ensures .0))
-
-face-requires : tie.Need-face-requires Inv-loop μ-loop
-face-requires c κs = search needs
 
 returns-2 : tie.Need-returns-2 Inv-loop μ-loop
 returns-2 c =
     let l = c .before .before .before .loop in
     sym (not-unused _ _ _ (c .before .before .before .before .before .before .dim .ensures) (l .j) (l .inv .1) (omega arith) (λ e. c .if3 .taken (c .before .face .ensures ∙ e)))
-
-add-j : tie.Need-add-j Inv-loop μ-loop
-add-j c = search needs
-
-loop-less : tie.Need-loop-less Inv-loop μ-loop
-loop-less c = search needs
 
 loop-again : tie.Need-loop-again Inv-loop μ-loop
 loop-again c = (
@@ -60,16 +45,5 @@ returns-3 c =
 pub record-sound-spec : {M : Type 1} → statement M
 record-sound-spec =
     tie.close
-    (tie.spec
-    Inv-loop
-    μ-loop
-    dim-requires
-    returns
-    used-requires
-    loop-holds
-    face-requires
-    returns-2
-    add-j
-    loop-less
-    loop-again
-    returns-3)
+    (tie.spec Inv-loop μ-loop (λ c κs. search needs) returns (λ c κs. search needs) loop-holds (λ c κs. search needs) returns-2
+    (λ c. search needs) (λ c. search needs) loop-again returns-3)

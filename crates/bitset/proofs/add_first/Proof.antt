@@ -18,38 +18,11 @@ abbrev μ-loop : tie.MeasureT-loop
 loop-holds : tie.Need-loop-holds Inv-loop μ-loop
 loop-holds c = (search needs, search needs, run-none _ _ _)
 
-mul-into : tie.Need-mul-into Inv-loop μ-loop
-mul-into c = search needs
-
-slice-read-into : tie.Need-slice-read-into Inv-loop μ-loop
-slice-read-into c = search needs
-
-mul-into-2 : tie.Need-mul-into-2 Inv-loop μ-loop
-mul-into-2 c = search needs
-
-shared-slice-read-into : tie.Need-shared-slice-read-into Inv-loop μ-loop
-shared-slice-read-into c = search needs
-
-mul-into-3 : tie.Need-mul-into-3 Inv-loop μ-loop
-mul-into-3 c = search needs
-
-slice-write-into : tie.Need-slice-write-into Inv-loop μ-loop
-slice-write-into c = search needs
-
-add-w : tie.Need-add-w Inv-loop μ-loop
-add-w c = search needs
-
-loop-less : tie.Need-loop-less Inv-loop μ-loop
-loop-less c = search needs
-
 loop-again : tie.Need-loop-again Inv-loop μ-loop
 loop-again c =
     let a = c .before .before .before .before in
     let l = c .before .before .before .loop in
     (omega arith, simp length-set (l .inv .1), sum-more (a .args .into .now) (a .args .from .now) (l .w) (l .into) (omega (arith, a .pre .0, a .pre .1)) (l .inv .2))
-
-same-length : tie.Need-same-length Inv-loop μ-loop
-same-length c = search needs
 
 returns : tie.Need-returns Inv-loop μ-loop
 returns c =
@@ -59,18 +32,5 @@ returns c =
 pub add-first-spec : {M : Type 1} → statement M
 add-first-spec =
     tie.close
-    (tie.spec
-    Inv-loop
-    μ-loop
-    loop-holds
-    mul-into
-    slice-read-into
-    mul-into-2
-    shared-slice-read-into
-    mul-into-3
-    slice-write-into
-    add-w
-    loop-less
-    loop-again
-    same-length
-    returns)
+    (tie.spec Inv-loop μ-loop loop-holds (λ c. search needs) (λ c. search needs) (λ c. search needs) (λ c. search needs)
+    (λ c. search needs) (λ c. search needs) (λ c. search needs) (λ c. search needs) loop-again (λ c. search needs) returns)

@@ -7,15 +7,6 @@ use Rattle.bitset.proofs.Marks.{mark-past, false-member}
 use Rattle.bitset.proofs.has.Statement.{statement}
 use Rattle.bitset.proofs.has.Tie as tie
 
-mul-result : tie.Need-mul-result
-mul-result c = search needs
-
-shared-slice-read-result : tie.Need-shared-slice-read-result
-shared-slice-read-result c = search needs
-
-shr-result : tie.Need-shr-result
-shr-result c = search needs
-
 returns : tie.Need-returns
 unfolding member mark digit
 returns c = refl
@@ -24,4 +15,4 @@ returns-2 : tie.Need-returns-2
 returns-2 c = sym (false-member (c .before .args .ws .now) (c .before .args .c) (mark-past (c .before .args .ws .now) (c .before .args .c) (omega arith)))
 
 pub has-spec : {M : Type 1} → statement M
-has-spec = tie.close (tie.spec mul-result shared-slice-read-result shr-result returns returns-2)
+has-spec = tie.close (tie.spec (λ c. search needs) (λ c. search needs) (λ c. search needs) returns returns-2)

@@ -18,18 +18,6 @@ abbrev μ-loop : tie.MeasureT-loop
 loop-holds : tie.Need-loop-holds Inv-loop μ-loop
 loop-holds c = (search needs, zeros-past (c .args .ws .now))
 
-sub-w : tie.Need-sub-w Inv-loop μ-loop
-sub-w c = search needs
-
-mul-v : tie.Need-mul-v Inv-loop μ-loop
-mul-v c = search needs
-
-shared-slice-read-v : tie.Need-shared-slice-read-v Inv-loop μ-loop
-shared-slice-read-v c = search needs
-
-mul-t8 : tie.Need-mul-t8 Inv-loop μ-loop
-mul-t8 c = search needs
-
 -- the word at hand, which is not 0
 abbrev word : tie.Then1 Inv-loop μ-loop → ℕ
 word c = getD (c .before .before .before .before .args .ws .now) (c .before .before .before .loop .w - 1) 0
@@ -42,17 +30,11 @@ sub-t11 c =
     let fits = c .before .shared-slice-known .given (c .before .before .before .loop .w - 1) in
     omega (arith, leading-inside (word c) (omega arith) (fits .fits))
 
-add-t12 : tie.Need-add-t12 Inv-loop μ-loop
-add-t12 c = search needs
-
 returns : tie.Need-returns Inv-loop μ-loop
 returns c =
     let l = c .before .before .before .loop in
     let fits = c .before .shared-slice-known .given (l .w - 1) in
     leading-is-largest (c .before .before .before .before .args .ws .now) (l .w - 1) (omega arith) (omega arith) (fits .fits) (λ k h. l .inv .1 k (omega arith))
-
-loop-less : tie.Need-loop-less Inv-loop μ-loop
-loop-less c = search needs
 
 loop-again : tie.Need-loop-again Inv-loop μ-loop
 loop-again c =
@@ -65,18 +47,5 @@ returns-2 c = zeros-all (c .before .before .args .ws .now) (c .before .loop .w) 
 pub largest-spec : {M : Type 1} → statement M
 largest-spec =
     tie.close
-    (tie.spec
-    Inv-loop
-    μ-loop
-    loop-holds
-    sub-w
-    mul-v
-    shared-slice-read-v
-    mul-t8
-    cast-t10
-    sub-t11
-    add-t12
-    returns
-    loop-less
-    loop-again
-    returns-2)
+    (tie.spec Inv-loop μ-loop loop-holds (λ c. search needs) (λ c. search needs) (λ c. search needs) (λ c. search needs) cast-t10 sub-t11
+    (λ c. search needs) returns (λ c. search needs) loop-again returns-2)

@@ -6,11 +6,8 @@ use borrow.Author.Needs.{needs}
 use Rattle.calls.proofs.number.Statement.{statement}
 use Rattle.calls.proofs.number.Tie as tie
 
-packed-requires : tie.Need-packed-requires
-packed-requires c κs = search needs
-
 returns : tie.Need-returns
 returns c = ap (λ n. n % 256) (c .packed .ensures) ∙ number-in-word (c .before .args .r)
 
 pub number-spec : {M : Type 1} → statement M
-number-spec = tie.close (tie.spec packed-requires returns)
+number-spec = tie.close (tie.spec (λ c κs. search needs) returns)

@@ -8,21 +8,6 @@ use Rattle.checker.proofs.LiveSets.{lives-free, lives-toggled}
 use Rattle.checker.proofs.add_live.Statement.{statement}
 use Rattle.checker.proofs.add_live.Tie as tie
 
-dim-requires : tie.Need-dim-requires
-dim-requires c κs = search needs
-
-mul-toggle : tie.Need-mul-toggle
-mul-toggle c = search needs
-
-add-toggle : tie.Need-add-toggle
-add-toggle c = search needs
-
-toggle-requires : tie.Need-toggle-requires
-toggle-requires c κs = search needs
-
-same-length : tie.Need-same-length
-same-length c = search needs
-
 returns : tie.Need-returns
 returns c =
     let d = c .before .before .before .before .before in
@@ -41,11 +26,4 @@ returns-2 c =
 pub add-live-spec : {M : Type 1} → statement M
 add-live-spec =
     tie.close
-    (tie.spec
-    dim-requires
-    mul-toggle
-    add-toggle
-    toggle-requires
-    same-length
-    returns
-    returns-2)
+    (tie.spec (λ c κs. search needs) (λ c. search needs) (λ c. search needs) (λ c κs. search needs) (λ c. search needs) returns returns-2)

@@ -17,12 +17,6 @@ use Rattle.checker.proofs.Answers.{refused-answer}
 use Rattle.checker.proofs.check.Statement.{statement}
 use Rattle.checker.proofs.check.Tie as tie
 
-lengths-fit-requires : tie.Need-lengths-fit-requires
-lengths-fit-requires c κs = search needs
-
-refused-requires : tie.Need-refused-requires
-refused-requires c κs = search needs
-
 returns : tie.Need-returns
 returns c =
     let f = c .before .before in
@@ -34,12 +28,6 @@ returns c =
 -- past the first test the lengths fit
 fit : (c : tie.Else1) → lengthsFit (c .before .before .before .before .args .t .now) (c .before .before .before .before .args .evidence .now) ≡ true
 fit c = sym (c .before .lengths-fit .ensures) ∙ not-false _ (c .if1 .left)
-
-audit-requires : tie.Need-audit-requires
-audit-requires c κs = search needs
-
-enum-told : tie.Need-enum-told
-enum-told c = search needs
 
 -- where the audit accepts the table is valid
 valid : (c : tie.After-enum-told) →
@@ -61,12 +49,6 @@ long c =
 check-rows-requires : tie.Need-check-rows-requires
 check-rows-requires c κs = (valid-is-frame _ (valid c), long c)
 
-enum-known-valid : tie.Need-enum-known-valid
-enum-known-valid c = search needs
-
-refused-requires-2 : tie.Need-refused-requires-2
-refused-requires-2 c κs = search needs
-
 returns-2 : tie.Need-returns-2
 returns-2 c = rows-answer _ _ _ (valid (c .before)) (long (c .before)) (c .check-rows .ensures)
 
@@ -81,14 +63,5 @@ returns-3 c =
 pub check-spec : {M : Type 1} → statement M
 check-spec =
     tie.close
-    (tie.spec
-    lengths-fit-requires
-    refused-requires
-    returns
-    audit-requires
-    enum-told
-    check-rows-requires
-    enum-known-valid
-    refused-requires-2
-    returns-2
-    returns-3)
+    (tie.spec (λ c κs. search needs) (λ c κs. search needs) returns (λ c κs. search needs) (λ c. search needs) check-rows-requires
+    (λ c. search needs) (λ c κs. search needs) returns-2 returns-3)

@@ -21,9 +21,6 @@ Inv-loop t evidence n met₀ lives₀ bounding₀ c₀ met lives bounding c =
 abbrev μ-loop : tie.MeasureT-loop
 μ-loop t evidence n met₀ lives₀ bounding₀ c₀ met lives bounding c = n - c
 
-size-requires : tie.Need-size-requires Inv-loop μ-loop
-size-requires c κs = search needs
-
 inside : (c : tie.In-loop Inv-loop μ-loop) →
     let a = c .before .before .before .before .before in
     c .before .loop .c < cells (a .args .t .now) .size
@@ -38,20 +35,11 @@ number-small c =
 loop-holds : tie.Need-loop-holds Inv-loop μ-loop
 loop-holds c = (search needs, walk-none _ _, lives-none _)
 
-slice-aggregate-add-live : tie.Need-slice-aggregate-add-live Inv-loop μ-loop
-slice-aggregate-add-live c = search needs
-
 add-live-requires : tie.Need-add-live-requires Inv-loop μ-loop
 add-live-requires c κs =
     let i = c .before in
     let a = i .before .before .before .before .before in
     (a .pre .0, (inside i, i .before .loop .inv .2))
-
-slice-aggregate-take-row : tie.Need-slice-aggregate-take-row Inv-loop μ-loop
-slice-aggregate-take-row c = search needs
-
-slice-aggregate-take-row-2 : tie.Need-slice-aggregate-take-row-2 Inv-loop μ-loop
-slice-aggregate-take-row-2 c = search needs
 
 take-row-requires : tie.Need-take-row-requires Inv-loop μ-loop
 take-row-requires c κs =
@@ -59,16 +47,10 @@ take-row-requires c κs =
     let a = i .before .before .before .before .before in
     (a .pre .0, (a .pre .1, (inside i, (i .before .loop .inv .1 .long, c .before .before .before .add-live .ensures))))
 
-enum-told : tie.Need-enum-told Inv-loop μ-loop
-enum-told c = search needs
-
 cast-t20 : tie.Need-cast-t20 Inv-loop μ-loop
 cast-t20 c =
     let a = c .before .before .before .before .before .before .before .before .before in
     omega (arith, number-small a)
-
-refused-requires : tie.Need-refused-requires Inv-loop μ-loop
-refused-requires c κs = search needs
 
 returns : tie.Need-returns Inv-loop μ-loop
 returns c =
@@ -79,16 +61,10 @@ returns c =
     (walk-breaks-a (cells (a .args .t .now)) (a .args .evidence .now) (a .pre .0 .lawful) (a .pre .1) (i .before .loop .c) (inside i) _ _ _ (i .before .loop .inv .1) _ (c .before .enum-told .given .1) (r .take-row .ensures))
     (c .refused .ensures .0) (c .refused .ensures .1 .0) (c .refused .ensures .1 .1)
 
-enum-told-2 : tie.Need-enum-told-2 Inv-loop μ-loop
-enum-told-2 c = search needs
-
 cast-t22 : tie.Need-cast-t22 Inv-loop μ-loop
 cast-t22 c =
     let a = c .before .before .before .before .before .before .before .before .before in
     omega (arith, number-small a)
-
-refused-requires-2 : tie.Need-refused-requires-2 Inv-loop μ-loop
-refused-requires-2 c κs = search needs
 
 returns-2 : tie.Need-returns-2 Inv-loop μ-loop
 returns-2 c =
@@ -98,12 +74,6 @@ returns-2 c =
     refused-answer (cells (a .args .t .now)) (a .args .evidence .now) _ _ _
     (walk-breaks-b (cells (a .args .t .now)) (a .args .evidence .now) (a .pre .0 .lawful) (a .pre .1) (i .before .loop .c) (inside i) _ _ _ (i .before .loop .inv .1) _ (c .before .enum-told2 .given .1) (r .take-row .ensures))
     (c .refused2 .ensures .0) (c .refused2 .ensures .1 .0) (c .refused2 .ensures .1 .1)
-
-enum-told-3 : tie.Need-enum-told-3 Inv-loop μ-loop
-enum-told-3 c = search needs
-
-enum-told-4 : tie.Need-enum-told-4 Inv-loop μ-loop
-enum-told-4 c = search needs
 
 -- a row with a boundary is that of a live cell, which has a dimension
 level : (c : tie.After-dim Inv-loop μ-loop) → c .dim .result ≤ top
@@ -133,12 +103,6 @@ add-bounding c =
 array-write-bounding : tie.Need-array-write-bounding Inv-loop μ-loop
 array-write-bounding c = omega (arith, level c)
 
-add-c : tie.Need-add-c Inv-loop μ-loop
-add-c c = search needs
-
-loop-less : tie.Need-loop-less Inv-loop μ-loop
-loop-less c = search needs
-
 loop-again : tie.Need-loop-again Inv-loop μ-loop
 loop-again c =
     let r = c .before .before in
@@ -156,15 +120,6 @@ at-end : (c : tie.After-loop Inv-loop μ-loop) →
     let a = c .before .before .before .before .before in
     c .before .loop .c ≡ cells (a .args .t .now) .size
 at-end c = omega (arith, c .loop-test .left, c .before .loop .inv .0, c .before .before .size .ensures)
-
-census-requires : tie.Need-census-requires Inv-loop μ-loop
-census-requires c κs = search needs
-
-slice-aggregate-holes-of : tie.Need-slice-aggregate-holes-of Inv-loop μ-loop
-slice-aggregate-holes-of c = search needs
-
-slice-aggregate-holes-of-2 : tie.Need-slice-aggregate-holes-of-2 Inv-loop μ-loop
-slice-aggregate-holes-of-2 c = search needs
 
 holes-of-requires : tie.Need-holes-of-requires Inv-loop μ-loop
 holes-of-requires c κs =
@@ -192,36 +147,8 @@ returns-3 c =
 pub check-rows-spec : {M : Type 1} → statement M
 check-rows-spec =
     tie.close
-    (tie.spec
-    Inv-loop
-    μ-loop
-    size-requires
-    loop-holds
-    slice-aggregate-add-live
-    add-live-requires
-    slice-aggregate-take-row
-    slice-aggregate-take-row-2
-    take-row-requires
-    enum-told
-    cast-t20
-    refused-requires
-    returns
-    enum-told-2
-    cast-t22
-    refused-requires-2
-    returns-2
-    enum-told-3
-    enum-told-4
-    dim-requires
-    mul-bounding
-    array-read-bounding
-    add-bounding
-    array-write-bounding
-    add-c
-    loop-less
-    loop-again
-    census-requires
-    slice-aggregate-holes-of
-    slice-aggregate-holes-of-2
-    holes-of-requires
-    returns-3)
+    (tie.spec Inv-loop μ-loop (λ c κs. search needs) loop-holds (λ c. search needs) add-live-requires (λ c. search needs)
+    (λ c. search needs) take-row-requires (λ c. search needs) cast-t20 (λ c κs. search needs) returns (λ c. search needs) cast-t22
+    (λ c κs. search needs) returns-2 (λ c. search needs) (λ c. search needs) dim-requires mul-bounding array-read-bounding add-bounding
+    array-write-bounding (λ c. search needs) (λ c. search needs) loop-again (λ c κs. search needs) (λ c. search needs) (λ c. search needs)
+    holes-of-requires returns-3)

@@ -20,49 +20,16 @@ abbrev μ-loop : tie.MeasureT-loop
 loop-holds : tie.Need-loop-holds Inv-loop μ-loop
 loop-holds c = (omega arith, refl, differences-none _ _ _)
 
-mul-holes : tie.Need-mul-holes Inv-loop μ-loop
-mul-holes c = search needs
-
-shared-slice-read-holes : tie.Need-shared-slice-read-holes Inv-loop μ-loop
-shared-slice-read-holes c = search needs
-
-mul-holes-2 : tie.Need-mul-holes-2 Inv-loop μ-loop
-mul-holes-2 c = search needs
-
-shared-slice-read-holes-2 : tie.Need-shared-slice-read-holes-2 Inv-loop μ-loop
-shared-slice-read-holes-2 c = search needs
-
 sub-holes : tie.Need-sub-holes Inv-loop μ-loop
 sub-holes c =
     let l = c .before .before .before .loop in
     omega (arith, c .before .before .before .before .pre .fit (l .p) (omega arith))
-
-add-holes : tie.Need-add-holes Inv-loop μ-loop
-add-holes c = search needs
-
-mul-holes-3 : tie.Need-mul-holes-3 Inv-loop μ-loop
-mul-holes-3 c = search needs
-
-shared-slice-read-holes-3 : tie.Need-shared-slice-read-holes-3 Inv-loop μ-loop
-shared-slice-read-holes-3 c = search needs
 
 sub-holes-2 : tie.Need-sub-holes-2 Inv-loop μ-loop
 sub-holes-2 c =
     let l = c .before .before .before .before .loop in
     let a = c .before .before .before .before .before in
     omega (arith, a .pre .fit (l .p) (omega (arith, c .before .before .before .loop-test .taken)))
-
-mul-holes-4 : tie.Need-mul-holes-4 Inv-loop μ-loop
-mul-holes-4 c = search needs
-
-array-write-holes : tie.Need-array-write-holes Inv-loop μ-loop
-array-write-holes c = search needs
-
-add-p : tie.Need-add-p Inv-loop μ-loop
-add-p c = search needs
-
-loop-less : tie.Need-loop-less Inv-loop μ-loop
-loop-less c = search needs
 
 loop-again : tie.Need-loop-again Inv-loop μ-loop
 loop-again c =
@@ -75,22 +42,6 @@ returns c = differences-all _ _ _ (c .before .loop .p) (c .before .loop .inv .1)
 pub holes-of-spec : {M : Type 1} → statement M
 holes-of-spec =
     tie.close
-    (tie.spec
-    Inv-loop
-    μ-loop
-    loop-holds
-    mul-holes
-    shared-slice-read-holes
-    mul-holes-2
-    shared-slice-read-holes-2
-    sub-holes
-    add-holes
-    mul-holes-3
-    shared-slice-read-holes-3
-    sub-holes-2
-    mul-holes-4
-    array-write-holes
-    add-p
-    loop-less
-    loop-again
-    returns)
+    (tie.spec Inv-loop μ-loop loop-holds (λ c. search needs) (λ c. search needs) (λ c. search needs) (λ c. search needs) sub-holes
+    (λ c. search needs) (λ c. search needs) (λ c. search needs) sub-holes-2 (λ c. search needs) (λ c. search needs) (λ c. search needs)
+    (λ c. search needs) loop-again returns)

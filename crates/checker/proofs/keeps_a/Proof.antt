@@ -10,9 +10,6 @@ use Rattle.checker.proofs.Rules.{keepsA-of-words}
 use Rattle.checker.proofs.keeps_a.Statement.{statement}
 use Rattle.checker.proofs.keeps_a.Tie as tie
 
-row-requires : tie.Need-row-requires
-row-requires c κs = search needs
-
 row-keeps-requires : tie.Need-row-keeps-requires
 row-keeps-requires c κs =
     let a = c .before .before .before .before in
@@ -30,4 +27,4 @@ returns c =
     ∙ keepsA-of-words K (a .args .evidence .now) (a .pre .1 .0) (a .args .c) (a .pre .1 .1 .0)
 
 pub keeps-a-spec : {M : Type 1} → statement M
-keeps-a-spec = tie.close (tie.spec row-requires row-keeps-requires returns)
+keeps-a-spec = tie.close (tie.spec (λ c κs. search needs) row-keeps-requires returns)

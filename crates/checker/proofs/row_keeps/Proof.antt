@@ -18,12 +18,6 @@ use Rattle.checker.proofs.LiveSets.{row-within}
 use Rattle.checker.proofs.row_keeps.Statement.{statement}
 use Rattle.checker.proofs.row_keeps.Tie as tie
 
-dim-requires : tie.Need-dim-requires
-dim-requires c κs = search needs
-
-is-empty-requires : tie.Need-is-empty-requires
-is-empty-requires c κs = search needs
-
 -- past the first test the number has a dimension, and so is live
 level : (c : tie.Else1) → c .before .dim .result ≤ top
 level c = omega (arith, c .if1 .left)
@@ -43,17 +37,11 @@ returns c =
     (free-number (viewOf (a .args .t .now)) (a .pre .0) (a .args .c) (d .dim .result) (d .dim .ensures) (omega (arith, c .before .if1 .taken)))
     (λ k. d .before .before .shared-slice-known2 .given k .fits)
 
-has-requires : tie.Need-has-requires
-has-requires c κs = search needs
-
 returns-2 : tie.Need-returns-2
 returns-2 c =
     let e = c .before .before in
     let a = e .before .before .before .before .before .args in
     no-own (cells (a .t .now)) (a .c) (a .row .now) (living e) (sym (c .before .has .ensures) ∙ not-true _ (c .if2 .taken))
-
-row-requires : tie.Need-row-requires
-row-requires c κs = search needs
 
 within-requires : tie.Need-within-requires
 within-requires c κs =
@@ -75,12 +63,5 @@ returns-3 c =
 pub row-keeps-spec : {M : Type 1} → statement M
 row-keeps-spec =
     tie.close
-    (tie.spec
-    dim-requires
-    is-empty-requires
-    returns
-    has-requires
-    returns-2
-    row-requires
-    within-requires
+    (tie.spec (λ c κs. search needs) (λ c κs. search needs) returns (λ c κs. search needs) returns-2 (λ c κs. search needs) within-requires
     returns-3)

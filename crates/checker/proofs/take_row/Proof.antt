@@ -15,9 +15,6 @@ use Rattle.checker.proofs.LargestMet.{largest-fits}
 use Rattle.checker.proofs.take_row.Statement.{statement}
 use Rattle.checker.proofs.take_row.Tie as tie
 
-keeps-a-requires : tie.Need-keeps-a-requires
-keeps-a-requires c κs = search needs
-
 returns : tie.Need-returns
 returns c = sym (c .before .keeps-a .ensures) ∙ not-true _ (c .if1 .taken)
 
@@ -26,9 +23,6 @@ kept : (c : tie.Else1) →
     let a = c .before .before .before .before .before .before in
     keepsA (cells (a .args .t .now)) (a .args .evidence .now) (a .args .c) ≡ true
 kept c = sym (c .before .keeps-a .ensures) ∙ not-false _ (c .if1 .left)
-
-dim-requires : tie.Need-dim-requires
-dim-requires c κs = search needs
 
 -- the row of a point
 returns-2 : tie.Need-returns-2
@@ -59,18 +53,6 @@ row-largest-requires c κs =
     let a = e .before .before .before .before .before .before in
     (a .pre .0, (a .pre .1 .0, (a .pre .1 .1 .0, kept-row-live (cells (a .args .t .now)) (a .args .evidence .now) (a .pre .1 .0) (a .args .c) (a .pre .1 .1 .0) (kept e))))
 
-enum-told : tie.Need-enum-told
-enum-told c = search needs
-
-enum-known-largest : tie.Need-enum-known-largest
-enum-known-largest c = search needs
-
-has-requires : tie.Need-has-requires
-has-requires c κs = search needs
-
-same-length : tie.Need-same-length
-same-length c = search needs
-
 returns-4 : tie.Need-returns-4
 returns-4 c =
     let r = c .before .before .before .before .before .before in
@@ -88,9 +70,6 @@ returns-5 c =
     let r = c .before .before in
     (kept (r .before .before .before .before), sym (r .row-largest .ensures) ∙ ap largestNumber (c .enum-told .given .1), refl)
 
-same-length-2 : tie.Need-same-length-2
-same-length-2 c = search needs
-
 returns-6 : tie.Need-returns-6
 returns-6 c =
     let h = c .before .before .before .before .before in
@@ -100,19 +79,5 @@ returns-6 c =
 pub take-row-spec : {M : Type 1} → statement M
 take-row-spec =
     tie.close
-    (tie.spec
-    keeps-a-requires
-    returns
-    dim-requires
-    returns-2
-    returns-3
-    row-largest-requires
-    enum-told
-    enum-known-largest
-    has-requires
-    same-length
-    returns-4
-    toggle-requires
-    returns-5
-    same-length-2
-    returns-6)
+    (tie.spec (λ c κs. search needs) returns (λ c κs. search needs) returns-2 returns-3 row-largest-requires (λ c. search needs)
+    (λ c. search needs) (λ c κs. search needs) (λ c. search needs) returns-4 toggle-requires returns-5 (λ c. search needs) returns-6)

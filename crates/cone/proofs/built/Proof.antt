@@ -10,9 +10,6 @@ use Rattle.cone.proofs.Refusals.{few-cells, words-fit, ends-inside, roo
 use Rattle.cone.proofs.built.Statement.{statement}
 use Rattle.cone.proofs.built.Tie as tie
 
-next-free-requires : tie.Need-next-free-requires
-next-free-requires c κs = search needs
-
 -- where the function starts, seen from the end of the marks; and what is known there
 abbrev asked : tie.After-marks-end → tie.Start
 asked m = m .before .before .before .before .before
@@ -47,9 +44,6 @@ raise-requires c κs =
     let a = asked m in
     (ready (a .args .t .now) (a .args .marks .now) (a .pre) _ _ _ (is-apex m) (d .cone-numbers .ensures) (c .before .before .if1 .taken), ends m)
 
-same-length : tie.Need-same-length
-same-length c = search needs
-
 returns : tie.Need-returns
 returns c =
     let i = c .before .before .before .before .before in
@@ -58,9 +52,6 @@ returns c =
     let a = asked m in
     room-found (a .args .t .now) (a .args .marks .now) (a .pre) _ _ _ (is-apex m) (d .cone-numbers .ensures) (i .if1 .taken) _
     (c .before .before .raise .ensures)
-
-same-length-2 : tie.Need-same-length-2
-same-length-2 c = search needs
 
 returns-2 : tie.Need-returns-2
 returns-2 c =
@@ -72,13 +63,5 @@ returns-2 c =
 pub built-spec : {M : Type 1} → statement M
 built-spec =
     tie.close
-    (tie.spec
-    next-free-requires
-    marks-end-requires
-    cone-numbers-requires
-    cast-apex
-    raise-requires
-    same-length
-    returns
-    same-length-2
-    returns-2)
+    (tie.spec (λ c κs. search needs) marks-end-requires cone-numbers-requires cast-apex raise-requires (λ c. search needs) returns
+    (λ c. search needs) returns-2)

@@ -9,25 +9,10 @@ use Rattle.cone.proofs.Refusals.{other-length, audit-refused, audit-pas
 use Rattle.cone.proofs.judged.Statement.{statement}
 use Rattle.cone.proofs.judged.Tie as tie
 
-room-requires : tie.Need-room-requires
-room-requires c κs = search needs
-
-words-for-requires : tie.Need-words-for-requires
-words-for-requires c κs = search needs
-
 returns : tie.Need-returns
 returns c =
     let a = c .before .before .before .before .before .args in
     other-length (a .t .now) (a .marks .now) (λ e. omega (arith, c .if1 .taken))
-
-audit-requires : tie.Need-audit-requires
-audit-requires c κs = search needs
-
-enum-known-valid : tie.Need-enum-known-valid
-enum-known-valid c = search needs
-
-enum-told : tie.Need-enum-told
-enum-told c = search needs
 
 right : (c : tie.Else1) → let a = c .before .before .before .before .before .args in length (a .marks .now) ≡ wordsFor (cellsOf (a .t .now))
 right c = omega arith
@@ -53,13 +38,5 @@ returns-3 c =
 pub judged-spec : {M : Type 1} → statement M
 judged-spec =
     tie.close
-    (tie.spec
-    room-requires
-    words-for-requires
-    returns
-    audit-requires
-    enum-known-valid
-    enum-told
-    asked-requires
-    returns-2
-    returns-3)
+    (tie.spec (λ c κs. search needs) (λ c κs. search needs) returns (λ c κs. search needs) (λ c. search needs) (λ c. search needs)
+    asked-requires returns-2 returns-3)

@@ -15,9 +15,6 @@ Inv-loop t c p words used f₀ j₀ f j = FacesTo t c p words f j
 abbrev μ-loop : tie.MeasureT-loop
 μ-loop t c p words used f₀ j₀ f j = used - j
 
-used-requires : tie.Need-used-requires Inv-loop μ-loop
-used-requires c κs = search needs
-
 loop-holds : tie.Need-loop-holds Inv-loop μ-loop
 loop-holds c = faces-none _ _ _ _
 
@@ -37,17 +34,8 @@ without-requires c κs = small c
 sub-number-of : tie.Need-sub-number-of Inv-loop μ-loop
 sub-number-of c = omega (arith, some (c .before))
 
-number-of-requires : tie.Need-number-of-requires Inv-loop μ-loop
-number-of-requires c κs = search needs
-
-mul-f : tie.Need-mul-f Inv-loop μ-loop
-mul-f c = search needs
-
 array-write-f : tie.Need-array-write-f Inv-loop μ-loop
 array-write-f c = let i = c .before .before in omega (arith, small i, i .before .loop .inv .long)
-
-add-j : tie.Need-add-j Inv-loop μ-loop
-add-j c = search needs
 
 loop-less : tie.Need-loop-less Inv-loop μ-loop
 loop-less c = let i = c .before .before in omega (arith, i .loop-test .taken)
@@ -66,17 +54,5 @@ returns c =
 pub face-numbers-spec : {M : Type 1} → statement M
 face-numbers-spec =
     tie.close
-    (tie.spec
-    Inv-loop
-    μ-loop
-    used-requires
-    loop-holds
-    without-requires
-    sub-number-of
-    number-of-requires
-    mul-f
-    array-write-f
-    add-j
-    loop-less
-    loop-again
-    returns)
+    (tie.spec Inv-loop μ-loop (λ c κs. search needs) loop-holds without-requires sub-number-of (λ c κs. search needs) (λ c. search needs)
+    array-write-f (λ c. search needs) loop-less loop-again returns)

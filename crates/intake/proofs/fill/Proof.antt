@@ -10,12 +10,6 @@ use Rattle.intake.proofs.Filling.{kept-here, gathers-there, sweeps-ther
 use Rattle.intake.proofs.fill.Statement.{statement}
 use Rattle.intake.proofs.fill.Tie as tie
 
-room-requires : tie.Need-room-requires
-room-requires c κs = search needs
-
-same-length : tie.Need-same-length
-same-length c = search needs
-
 returns : tie.Need-returns
 returns c = fills-no-points _ _ _ _ (omega (arith, c .if1 .taken, c .before .room .ensures))
 
@@ -61,9 +55,6 @@ above e h = omega (arith, h, e .before .room .ensures)
 inside : (e : tie.Else1) {m : ℕ} → m ≤ e .before .room .result → m ≤ cellsOf (start e .args .t .now)
 inside e h = omega (arith, h, e .before .room .ensures)
 
-same-length-2 : tie.Need-same-length-2
-same-length-2 c = search needs
-
 returns-2 : tie.Need-returns-2
 returns-2 c =
     let g = c .before .before .before in
@@ -83,9 +74,6 @@ swept :
     Sweeps (cellsOf (start (points g) .args .t .now)) (g .take-lines .last .0) (w .sweep .last .0) (g .take-lines .result) (w .sweep .result)
 swept w = let g = lines w in sweeps-there (start (points g) .args .t .now) _ (sized g) (w .sweep .ensures)
 
-same-length-3 : tie.Need-same-length-3
-same-length-3 c = search needs
-
 returns-3 : tie.Need-returns-3
 returns-3 c =
     let w = c .before .before .before in
@@ -101,9 +89,6 @@ put-faces-requires c κs =
     let m = inside (points g) (c .before .if3 .left) in
     (omega (arith, m, w .sweep .kept .0, sized g), omega (arith, m, s .pre .0))
 
-same-length-4 : tie.Need-same-length-4
-same-length-4 c = search needs
-
 returns-4 : tie.Need-returns-4
 returns-4 c =
     let p = c .before .before in
@@ -117,17 +102,5 @@ returns-4 c =
 pub fill-spec : {M : Type 1} → statement M
 fill-spec =
     tie.close
-    (tie.spec
-    room-requires
-    same-length
-    returns
-    take-points-requires
-    take-lines-requires
-    same-length-2
-    returns-2
-    sweep-requires
-    same-length-3
-    returns-3
-    put-faces-requires
-    same-length-4
-    returns-4)
+    (tie.spec (λ c κs. search needs) (λ c. search needs) returns take-points-requires take-lines-requires (λ c. search needs) returns-2
+    sweep-requires (λ c. search needs) returns-3 put-faces-requires (λ c. search needs) returns-4)

@@ -14,15 +14,6 @@ use Rattle.intake.proofs.Answers.{as-read, imports-length, accepted-siz
 use Rattle.intake.proofs.import.Statement.{statement}
 use Rattle.intake.proofs.import.Tie as tie
 
-empty-requires : tie.Need-empty-requires
-empty-requires c κs = search needs
-
-enum-known-emptied : tie.Need-enum-known-emptied
-enum-known-emptied c = search needs
-
-same-length : tie.Need-same-length
-same-length c = search needs
-
 -- places that several ways out look back at
 abbrev asked : tie.After-empty → tie.Start
 asked e = e .before .before .before .before
@@ -55,24 +46,6 @@ list-here :
     Opens text n (k .before .scan .given .0 .1 .0) × Scanned text n true
 list-here k = scan-fit _ _ _ _ (scanned k .scan-text .ensures) (k .before .scan .given .1)
 
-enum-told : tie.Need-enum-told
-enum-told c = search needs
-
-scan-text-requires : tie.Need-scan-text-requires
-scan-text-requires c κs = search needs
-
-enum-told-2 : tie.Need-enum-told-2
-enum-told-2 c = search needs
-
-enum-told-3 : tie.Need-enum-told-3
-enum-told-3 c = search needs
-
-enum-known-scan : tie.Need-enum-known-scan
-enum-known-scan c = search needs
-
-cast-fill : tie.Need-cast-fill
-cast-fill c = search needs
-
 fill-requires : tie.Need-fill-requires
 fill-requires c κs =
     let k = c .before in
@@ -81,19 +54,10 @@ fill-requires c κs =
     let w = none-kept (asked e .args .t .now) (sized-here z) _ (e .empty .kept .0) (free-here z) in
     (w .0, w .1, list-here k .0, list-here k .1)
 
-refused-requires : tie.Need-refused-requires
-refused-requires c κs = search needs
-
-same-length-2 : tie.Need-same-length-2
-same-length-2 c = search needs
-
 returns-2 : tie.Need-returns-2
 returns-2 c =
     let z = c .before .before in
     as-read _ _ _ _ (imports-text _ (sized-here z) _ _ (scan-none _ _ (z .scan-text .ensures) (c .enum-told2 .given .1)) (free-here z))
-
-same-length-3 : tie.Need-same-length-3
-same-length-3 c = search needs
 
 returns-3 : tie.Need-returns-3
 returns-3 c =
@@ -110,9 +74,6 @@ filling f =
     let e = emptied (scanned (found f)) in
     fills-there (asked e .args .t .now) (e .empty .last .0) (e .empty .kept .0) (f .fill .ensures)
 
-same-length-4 : tie.Need-same-length-4
-same-length-4 c = search needs
-
 returns-4 : tie.Need-returns-4
 returns-4 c =
     let f = c .before .before .before in
@@ -121,9 +82,6 @@ returns-4 c =
     let l = list-here k .1 in
     let w = filling f .yes (c .if1 .taken) (l .lines) (l .is-list) in
     as-read _ _ _ _ (imports-all _ (sized-here z) _ _ _ (l .lines) (l .is-list) (l .fits) (w .0) (w .1))
-
-same-length-5 : tie.Need-same-length-5
-same-length-5 c = search needs
 
 returns-5 : tie.Need-returns-5
 returns-5 c =
@@ -141,24 +99,6 @@ returns-5 c =
 pub import-spec : {M : Type 1} → statement M
 import-spec =
     tie.close
-    (tie.spec
-    empty-requires
-    enum-known-emptied
-    same-length
-    returns
-    enum-told
-    scan-text-requires
-    enum-told-2
-    enum-told-3
-    enum-known-scan
-    cast-fill
-    fill-requires
-    refused-requires
-    same-length-2
-    returns-2
-    same-length-3
-    returns-3
-    same-length-4
-    returns-4
-    same-length-5
-    returns-5)
+    (tie.spec (λ c κs. search needs) (λ c. search needs) (λ c. search needs) returns (λ c. search needs) (λ c κs. search needs)
+    (λ c. search needs) (λ c. search needs) (λ c. search needs) (λ c. search needs) fill-requires (λ c κs. search needs)
+    (λ c. search needs) returns-2 (λ c. search needs) returns-3 (λ c. search needs) returns-4 (λ c. search needs) returns-5)

@@ -18,9 +18,6 @@ abbrev μ-loop : tie.MeasureT-loop
 loop-holds : tie.Need-loop-holds Inv-loop μ-loop
 loop-holds c = (refl, facing-none _ _ _)
 
-sub-c : tie.Need-sub-c Inv-loop μ-loop
-sub-c c = search needs
-
 -- the turn's cell is inside the table
 low : (i : tie.In-loop Inv-loop μ-loop) → i .before .loop .c - 1 < cellsOf (i .before .loop .t)
 low i =
@@ -60,25 +57,11 @@ loop-again c =
           (p .put-faces .ensures),
     )
 
-same-length : tie.Need-same-length Inv-loop μ-loop
-same-length c = search needs
-
 returns : tie.Need-returns Inv-loop μ-loop
 returns c = facing-all _ _ _ _ _ (c .before .loop .inv .1) (c .loop-test .left)
 
 pub put-faces-spec : {M : Type 1} → statement M
 put-faces-spec =
     tie.close
-    (tie.spec
-    Inv-loop
-    μ-loop
-    loop-holds
-    sub-c
-    dim-requires
-    faces-requires
-    face-numbers-requires
-    put-faces-requires
-    loop-less
-    loop-again
-    same-length
-    returns)
+    (tie.spec Inv-loop μ-loop loop-holds (λ c. search needs) dim-requires faces-requires face-numbers-requires put-faces-requires loop-less
+    loop-again (λ c. search needs) returns)

@@ -17,9 +17,6 @@ Inv-loop t₀ before room m₀ c₀ t m c = (room ≡ cellsOf t₀) × (length t
 abbrev μ-loop : tie.MeasureT-loop
 μ-loop t₀ before room m₀ c₀ t m c = 2 * (room - m) + c
 
-room-requires : tie.Need-room-requires Inv-loop μ-loop
-room-requires c κs = search needs
-
 loop-holds : tie.Need-loop-holds Inv-loop μ-loop
 loop-holds c = (c .room .ensures, refl, cells-none _ _ _ (c .before .before .before .pre))
 
@@ -31,9 +28,6 @@ take-facets-requires c κs =
     let l = c .before .before .loop in
     let i = l .inv .2 in
     (omega (arith, c .before .loop-test .taken, i .inside), omega (arith, i .most, l .inv .1))
-
-same-length : tie.Need-same-length Inv-loop μ-loop
-same-length c = search needs
 
 -- the room is that of the table at first
 here :
@@ -80,28 +74,11 @@ loop-again c =
           (omega (arith, c .if1 .left, l .inv .0)),
     )
 
-same-length-2 : tie.Need-same-length-2 Inv-loop μ-loop
-same-length-2 c = search needs
-
 returns-2 : tie.Need-returns-2 Inv-loop μ-loop
 returns-2 c = cells-all _ _ _ _ _ _ (c .before .loop .inv .2) (c .loop-test .left)
 
 pub sweep-spec : {M : Type 1} → statement M
 sweep-spec =
     tie.close
-    (tie.spec
-    Inv-loop
-    μ-loop
-    room-requires
-    loop-holds
-    sub-take-facets
-    take-facets-requires
-    same-length
-    returns
-    sub-c
-    sub-c-2
-    add-c
-    loop-less
-    loop-again
-    same-length-2
-    returns-2)
+    (tie.spec Inv-loop μ-loop (λ c κs. search needs) loop-holds sub-take-facets take-facets-requires (λ c. search needs) returns sub-c
+    sub-c-2 add-c loop-less loop-again (λ c. search needs) returns-2)

@@ -20,20 +20,11 @@ abbrev μ-loop : tie.MeasureT-loop
 dim-requires : tie.Need-dim-requires Inv-loop μ-loop
 dim-requires c κs = let p = c .before .before .pre in omega (arith, p .0, p .1)
 
-same-length : tie.Need-same-length Inv-loop μ-loop
-same-length c = search needs
-
 returns : tie.Need-returns Inv-loop μ-loop
 returns c = facets-low _ _ _ _ _ (c .before .dim .ensures) (c .if1 .taken) (c .before .before .before .before .pre .1)
 
-used-requires : tie.Need-used-requires Inv-loop μ-loop
-used-requires c κs = search needs
-
 faces-requires : tie.Need-faces-requires Inv-loop μ-loop
 faces-requires c κs = let p = c .before .before .before .before .before .before .pre in omega (arith, p .0, p .1)
-
-room-requires : tie.Need-room-requires Inv-loop μ-loop
-room-requires c κs = search needs
 
 -- places that a turn looks back at
 abbrev cell : tie.At-loop Inv-loop μ-loop → tie.Else1 Inv-loop μ-loop
@@ -58,9 +49,6 @@ sub-take-in c = let e = c .before .before .before .before .before .before .befor
 take-in-requires : tie.Need-take-in-requires Inv-loop μ-loop
 take-in-requires c κs = let l = c .before .before .before .loop in omega (arith, l .inv .0, l .inv .1 .most)
 
-same-length-2 : tie.Need-same-length-2 Inv-loop μ-loop
-same-length-2 c = search needs
-
 returns-2 : tie.Need-returns-2 Inv-loop μ-loop
 returns-2 c =
     let k = c .before .before .before in
@@ -69,9 +57,6 @@ returns-2 c =
     let e = cell l in
     facets-full _ _ _ _ _ _ (e .before .dim .ensures) (l .before .before .before .faces .ensures) (e .if1 .left) _ _ _ (l .loop .inv .1) _ _ _ (place i)
     (k .before .before .without .ensures) (k .take-in .ensures) (omega (arith, c .if2 .taken, l .before .room .ensures))
-
-add-j : tie.Need-add-j Inv-loop μ-loop
-add-j c = search needs
 
 loop-less : tie.Need-loop-less Inv-loop μ-loop
 loop-less c = let i = turn (c .before .before .before) in omega (arith, i .loop-test .taken)
@@ -87,9 +72,6 @@ loop-again c =
           (k .before .before .without .ensures) (k .take-in .ensures) (omega (arith, c .if2 .left, l .before .room .ensures)),
     )
 
-same-length-3 : tie.Need-same-length-3 Inv-loop μ-loop
-same-length-3 c = search needs
-
 returns-3 : tie.Need-returns-3 Inv-loop μ-loop
 returns-3 c =
     let l = c .before in
@@ -100,23 +82,6 @@ returns-3 c =
 pub take-facets-spec : {M : Type 1} → statement M
 take-facets-spec =
     tie.close
-    (tie.spec
-    Inv-loop
-    μ-loop
-    dim-requires
-    same-length
-    returns
-    used-requires
-    faces-requires
-    room-requires
-    loop-holds
-    without-requires
-    sub-take-in
-    take-in-requires
-    same-length-2
-    returns-2
-    add-j
-    loop-less
-    loop-again
-    same-length-3
-    returns-3)
+    (tie.spec Inv-loop μ-loop dim-requires (λ c. search needs) returns (λ c κs. search needs) faces-requires (λ c κs. search needs)
+    loop-holds without-requires sub-take-in take-in-requires (λ c. search needs) returns-2 (λ c. search needs) loop-less loop-again
+    (λ c. search needs) returns-3)

@@ -16,9 +16,6 @@ Inv-loop t₀ text start n room m₀ at₀ t m at = (length t ≡ length t₀) �
 abbrev μ-loop : tie.MeasureT-loop
 μ-loop t₀ text start n room m₀ at₀ t m at = length text - at
 
-room-requires : tie.Need-room-requires Inv-loop μ-loop
-room-requires c κs = search needs
-
 loop-holds : tie.Need-loop-holds Inv-loop μ-loop
 loop-holds c = let s = c .before .before .before .before in (refl, reached-none _ _ _ _ _ (s .pre .3) (s .pre .2))
 
@@ -52,9 +49,6 @@ take-line-requires c κs =
       line-fit-small _ _ _ _ _ _ (l .loop .inv .1) (asked l .pre .4) _ _ (line r) (asked l .pre .1),
     )
 
-same-length : tie.Need-same-length Inv-loop μ-loop
-same-length c = search needs
-
 returns : tie.Need-returns Inv-loop μ-loop
 returns c =
     let k = c .before .before .before in
@@ -78,25 +72,11 @@ loop-again c =
           (omega (arith, c .if1 .left, l .before .room .ensures)),
     )
 
-same-length-2 : tie.Need-same-length-2 Inv-loop μ-loop
-same-length-2 c = search needs
-
 returns-2 : tie.Need-returns-2 Inv-loop μ-loop
 returns-2 c = all-reached _ _ _ _ _ _ (c .before .loop .inv .1) (c .loop-test .left)
 
 pub take-lines-spec : {M : Type 1} → statement M
 take-lines-spec =
     tie.close
-    (tie.spec
-    Inv-loop
-    μ-loop
-    room-requires
-    loop-holds
-    read-line-requires
-    take-line-requires
-    same-length
-    returns
-    loop-less
-    loop-again
-    same-length-2
-    returns-2)
+    (tie.spec Inv-loop μ-loop (λ c κs. search needs) loop-holds read-line-requires take-line-requires (λ c. search needs) returns loop-less
+    loop-again (λ c. search needs) returns-2)

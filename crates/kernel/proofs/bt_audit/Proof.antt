@@ -5,14 +5,8 @@ use borrow.Author.Needs.{needs}
 use Rattle.kernel.proofs.bt_audit.Statement.{statement}
 use Rattle.kernel.proofs.bt_audit.Tie as tie
 
-audit-requires : tie.Need-audit-requires
-audit-requires c κs = search needs
-
-code-of-requires : tie.Need-code-of-requires
-code-of-requires c κs = search needs
-
 returns : tie.Need-returns
 returns c = c .code-of .ensures ∙ ap code (c .before .audit .ensures)
 
 pub bt-audit-spec : {M : Type 1} → statement M
-bt-audit-spec = tie.close (tie.spec audit-requires code-of-requires returns)
+bt-audit-spec = tie.close (tie.spec (λ c κs. search needs) (λ c κs. search needs) returns)

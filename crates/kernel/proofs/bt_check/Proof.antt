@@ -4,18 +4,6 @@ use borrow.Author.Needs.{needs}
 use Rattle.kernel.proofs.bt_check.Statement.{statement}
 use Rattle.kernel.proofs.bt_check.Tie as tie
 
-check-requires : tie.Need-check-requires
-check-requires c κs = search needs
-
-enum-told : tie.Need-enum-told
-enum-told c = search needs
-
-enum-known-verdict : tie.Need-enum-known-verdict
-enum-known-verdict c = search needs
-
-packed-requires : tie.Need-packed-requires
-packed-requires c κs = search needs
-
 returns : tie.Need-returns
 returns c = check-accepted _ _ _ (c .before .before .before .before .check .ensures) _ _ (c .before .before .enum-told .given .1)
 
@@ -25,4 +13,4 @@ returns-2 c = check-refused _ _ _ (c .before .before .before .before .check .ens
 pub bt-check-spec : {M : Type 1} → statement M
 bt-check-spec =
     tie.close
-    (tie.spec check-requires enum-told enum-known-verdict packed-requires returns returns-2)
+    (tie.spec (λ c κs. search needs) (λ c. search needs) (λ c. search needs) (λ c κs. search needs) returns returns-2)

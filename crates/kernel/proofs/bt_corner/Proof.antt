@@ -6,15 +6,9 @@ use borrow.Author.Needs.{needs}
 use Rattle.kernel.proofs.bt_corner.Statement.{statement}
 use Rattle.kernel.proofs.bt_corner.Tie as tie
 
-corner-requires : tie.Need-corner-requires
-corner-requires c κs = search needs
-
-name-cell-requires : tie.Need-name-cell-requires
-name-cell-requires c κs = search needs
-
 returns : tie.Need-returns
 returns c = told namedCode namedValue _ _ _ _ _ (sym (c .before .before .corner .ensures)) (c .name-cell .ensures .answer)
     (c .name-cell .ensures .left)
 
 pub bt-corner-spec : {M : Type 1} → statement M
-bt-corner-spec = tie.close (tie.spec corner-requires name-cell-requires returns)
+bt-corner-spec = tie.close (tie.spec (λ c κs. search needs) (λ c κs. search needs) returns)

@@ -4,17 +4,8 @@ use borrow.Author.Needs.{needs}
 use Rattle.kernel.proofs.bt_import.Statement.{statement}
 use Rattle.kernel.proofs.bt_import.Tie as tie
 
-import-requires : tie.Need-import-requires
-import-requires c κs = search needs
-
-code-of-requires : tie.Need-code-of-requires
-code-of-requires c κs = search needs
-
-same-length : tie.Need-same-length
-same-length c = search needs
-
 returns : tie.Need-returns
 returns c = coded (c .before .before .before .import .ensures) (c .code-of .ensures)
 
 pub bt-import-spec : {M : Type 1} → statement M
-bt-import-spec = tie.close (tie.spec import-requires code-of-requires same-length returns)
+bt-import-spec = tie.close (tie.spec (λ c κs. search needs) (λ c κs. search needs) (λ c. search needs) returns)

@@ -6,18 +6,6 @@ use borrow.Author.Needs.{needs}
 use Rattle.kernel.proofs.bt_incidence.Statement.{statement}
 use Rattle.kernel.proofs.bt_incidence.Tie as tie
 
-incidence-requires : tie.Need-incidence-requires
-incidence-requires c κs = search needs
-
-enum-known-answer : tie.Need-enum-known-answer
-enum-known-answer c = search needs
-
-enum-known-answer-2 : tie.Need-enum-known-answer-2
-enum-known-answer-2 c = search needs
-
-packed-requires : tie.Need-packed-requires
-packed-requires c κs = search needs
-
 returns : tie.Need-returns
 returns c = told sumCode sumValue _ _ _ _ _ (sym (c .before .before .before .incidence .ensures) ∙ c .before .answer .given .1) refl (search needs)
 
@@ -28,10 +16,4 @@ returns-2 c = told sumCode sumValue _ _ _ _ _ (sym (c .before .before .before .b
 pub bt-incidence-spec : {M : Type 1} → statement M
 bt-incidence-spec =
     tie.close
-    (tie.spec
-    incidence-requires
-    enum-known-answer
-    enum-known-answer-2
-    packed-requires
-    returns
-    returns-2)
+    (tie.spec (λ c κs. search needs) (λ c. search needs) (λ c. search needs) (λ c κs. search needs) returns returns-2)

@@ -5,18 +5,9 @@ use borrow.Author.Needs.{needs}
 use Rattle.kernel.proofs.bt_merge.Statement.{statement}
 use Rattle.kernel.proofs.bt_merge.Tie as tie
 
-merge-requires : tie.Need-merge-requires
-merge-requires c κs = search needs
-
-name-cell-requires : tie.Need-name-cell-requires
-name-cell-requires c κs = search needs
-
-same-length : tie.Need-same-length
-same-length c = search needs
-
 returns : tie.Need-returns
 returns c = filled namedCode namedValue _ _ _ _ _ _ _ (c .before .before .before .before .merge .ensures) (c .name-cell .ensures .answer)
     (c .name-cell .ensures .left)
 
 pub bt-merge-spec : {M : Type 1} → statement M
-bt-merge-spec = tie.close (tie.spec merge-requires name-cell-requires same-length returns)
+bt-merge-spec = tie.close (tie.spec (λ c κs. search needs) (λ c κs. search needs) (λ c. search needs) returns)

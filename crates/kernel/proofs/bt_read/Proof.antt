@@ -4,17 +4,8 @@ use borrow.Author.Needs.{needs}
 use Rattle.kernel.proofs.bt_read.Statement.{statement}
 use Rattle.kernel.proofs.bt_read.Tie as tie
 
-read-requires : tie.Need-read-requires
-read-requires c κs = search needs
-
-code-of-requires : tie.Need-code-of-requires
-code-of-requires c κs = search needs
-
-same-length : tie.Need-same-length
-same-length c = search needs
-
 returns : tie.Need-returns
 returns c = coded (c .before .before .before .read .ensures) (c .code-of .ensures)
 
 pub bt-read-spec : {M : Type 1} → statement M
-bt-read-spec = tie.close (tie.spec read-requires code-of-requires same-length returns)
+bt-read-spec = tie.close (tie.spec (λ c κs. search needs) (λ c κs. search needs) (λ c. search needs) returns)

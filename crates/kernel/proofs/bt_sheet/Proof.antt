@@ -6,21 +6,6 @@ use borrow.Author.Needs.{needs}
 use Rattle.kernel.proofs.bt_sheet.Statement.{statement}
 use Rattle.kernel.proofs.bt_sheet.Tie as tie
 
-sheet-requires : tie.Need-sheet-requires
-sheet-requires c κs = search needs
-
-enum-told : tie.Need-enum-told
-enum-told c = search needs
-
-enum-told-2 : tie.Need-enum-told-2
-enum-told-2 c = search needs
-
-enum-known-answer : tie.Need-enum-known-answer
-enum-known-answer c = search needs
-
-packed-requires : tie.Need-packed-requires
-packed-requires c κs = search needs
-
 returns : tie.Need-returns
 returns c = told judgedCode judgedValue _ _ _ _ _ (sym (c .before .before .sheet .ensures) ∙ c .enum-told .given .1) refl refl
 
@@ -34,12 +19,5 @@ returns-3 c = told judgedCode judgedValue _ _ _ _ _ (sym (c .before .before .bef
 pub bt-sheet-spec : {M : Type 1} → statement M
 bt-sheet-spec =
     tie.close
-    (tie.spec
-    sheet-requires
-    enum-told
-    enum-told-2
-    enum-known-answer
-    packed-requires
-    returns
-    returns-2
+    (tie.spec (λ c κs. search needs) (λ c. search needs) (λ c. search needs) (λ c. search needs) (λ c κs. search needs) returns returns-2
     returns-3)

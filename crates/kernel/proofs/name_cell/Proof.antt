@@ -4,20 +4,10 @@ use borrow.Author.Needs.{needs}
 use Rattle.kernel.proofs.name_cell.Statement.{statement}
 use Rattle.kernel.proofs.name_cell.Tie as tie
 
-enum-known-n : tie.Need-enum-known-n
-enum-known-n c = search needs
-
-enum-known-n-2 : tie.Need-enum-known-n-2
-enum-known-n-2 c = search needs
-
-packed-requires : tie.Need-packed-requires
-packed-requires c κs = search needs
-
-returns : tie.Need-returns
-returns c = search needs
-
 returns-2 : tie.Need-returns-2
 returns-2 c = no-cell _ _ _ _ (c .before .before .n2 .given .1) (c .packed .ensures)
 
 pub name-cell-spec : {M : Type 1} → statement M
-name-cell-spec = tie.close (tie.spec enum-known-n enum-known-n-2 packed-requires returns returns-2)
+name-cell-spec =
+    tie.close
+    (tie.spec (λ c. search needs) (λ c. search needs) (λ c κs. search needs) (λ c. search needs) returns-2)

@@ -17,12 +17,6 @@ abbrev μ-loop : tie.MeasureT-loop
 loop-holds : tie.Need-loop-holds Inv-loop μ-loop
 loop-holds c = (omega arith, fit-none _ _)
 
-mul-if1 : tie.Need-mul-if1 Inv-loop μ-loop
-mul-if1 c = search needs
-
-array-read-if1 : tie.Need-array-read-if1 Inv-loop μ-loop
-array-read-if1 c = search needs
-
 -- the array has room for them
 few : (s : tie.Start Inv-loop μ-loop) → s .args .count ≤ length (s .args .t1)
 few s = search needs
@@ -30,21 +24,12 @@ few s = search needs
 returns : tie.Need-returns Inv-loop μ-loop
 returns c = taken-unfit _ _ _ (few (c .before .before .before)) (c .before .before .loop .i) (c .before .loop-test .taken) (too-large _ _ _ (c .if1 .taken))
 
-repeated-requires : tie.Need-repeated-requires Inv-loop μ-loop
-repeated-requires c κs = search needs
-
 returns-2 : tie.Need-returns-2 Inv-loop μ-loop
 returns-2 c =
     let e = c .before .before in
     let l = e .before .before in
     taken-unfit _ _ _ (few (l .before)) (l .loop .i) (e .before .loop-test .taken)
     (not-once _ _ _ (e .if1 .left) (sym (c .if2 .taken) ∙ c .before .repeated .ensures))
-
-add-i : tie.Need-add-i Inv-loop μ-loop
-add-i c = search needs
-
-loop-less : tie.Need-loop-less Inv-loop μ-loop
-loop-less c = search needs
 
 loop-again : tie.Need-loop-again Inv-loop μ-loop
 loop-again c =
@@ -58,16 +43,5 @@ returns-3 c = taken-fits _ _ _ (few (c .before .before)) (c .before .loop .i) (c
 pub fits-spec : {M : Type 1} → statement M
 fits-spec =
     tie.close
-    (tie.spec
-    Inv-loop
-    μ-loop
-    loop-holds
-    mul-if1
-    array-read-if1
-    returns
-    repeated-requires
-    returns-2
-    add-i
-    loop-less
-    loop-again
-    returns-3)
+    (tie.spec Inv-loop μ-loop loop-holds (λ c. search needs) (λ c. search needs) returns (λ c κs. search needs) returns-2
+    (λ c. search needs) (λ c. search needs) loop-again returns-3)

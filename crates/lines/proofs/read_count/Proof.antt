@@ -7,15 +7,6 @@ use Rattle.lines.proofs.Counts.{no-count, count-read, no-newline}
 use Rattle.lines.proofs.read_count.Statement.{statement}
 use Rattle.lines.proofs.read_count.Tie as tie
 
-read-number-requires : tie.Need-read-number-requires
-read-number-requires c κs = search needs
-
-enum-told : tie.Need-enum-told
-enum-told c = search needs
-
-enum-known-found : tie.Need-enum-known-found
-enum-known-found c = search needs
-
 -- the number that was found
 number :
     (f : tie.After-found) → let g = f .found .given .0 in
@@ -42,12 +33,4 @@ returns-3 c = no-newline _ _ _ (number (c .before .before .before)) (c .if1 .lef
 pub read-count-spec : {M : Type 1} → statement M
 read-count-spec =
     tie.close
-    (tie.spec
-    read-number-requires
-    enum-told
-    enum-known-found
-    shared-slice-read-if1
-    add-t10
-    returns
-    returns-2
-    returns-3)
+    (tie.spec (λ c κs. search needs) (λ c. search needs) (λ c. search needs) shared-slice-read-if1 add-t10 returns returns-2 returns-3)

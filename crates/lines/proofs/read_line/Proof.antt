@@ -21,30 +21,12 @@ abbrev μ-loop : tie.MeasureT-loop
 loop-holds : tie.Need-loop-holds Inv-loop μ-loop
 loop-holds c = (refl, omega arith, led-none _ _ (c .before .pre))
 
-read-number-requires : tie.Need-read-number-requires Inv-loop μ-loop
-read-number-requires c κs = search needs
-
-enum-told : tie.Need-enum-told Inv-loop μ-loop
-enum-told c = search needs
-
 returns : tie.Need-returns Inv-loop μ-loop
 returns c =
     let a = c .before .before in
     let l = a .before .before .loop in
     line-none _ _ _ (l .inv .0) refl
     (none-number _ _ _ _ (l .inv .2) (no-number-told _ _ _ (a .read-number .ensures) (c .enum-told .given .1)))
-
-enum-known-found : tie.Need-enum-known-found Inv-loop μ-loop
-enum-known-found c = search needs
-
-mul-numbers : tie.Need-mul-numbers Inv-loop μ-loop
-mul-numbers c = search needs
-
-array-write-numbers : tie.Need-array-write-numbers Inv-loop μ-loop
-array-write-numbers c = search needs
-
-add-count : tie.Need-add-count Inv-loop μ-loop
-add-count c = search needs
 
 -- the turn, and the number that it found
 abbrev turn : tie.After-found Inv-loop μ-loop → tie.In-loop Inv-loop μ-loop
@@ -80,9 +62,6 @@ returns-3 c =
 add-i : tie.Need-add-i Inv-loop μ-loop
 add-i c = omega (arith, number (c .before .before .before .before) .inside)
 
-loop-less : tie.Need-loop-less Inv-loop μ-loop
-loop-less c = search needs
-
 loop-again : tie.Need-loop-again Inv-loop μ-loop
 loop-again c =
     let f = c .before .before .before .before in
@@ -102,22 +81,5 @@ returns-4 c =
 pub read-line-spec : {M : Type 1} → statement M
 read-line-spec =
     tie.close
-    (tie.spec
-    Inv-loop
-    μ-loop
-    loop-holds
-    read-number-requires
-    enum-told
-    returns
-    enum-known-found
-    mul-numbers
-    array-write-numbers
-    add-count
-    shared-slice-read-c
-    add-t19
-    returns-2
-    returns-3
-    add-i
-    loop-less
-    loop-again
-    returns-4)
+    (tie.spec Inv-loop μ-loop loop-holds (λ c κs. search needs) (λ c. search needs) returns (λ c. search needs) (λ c. search needs)
+    (λ c. search needs) (λ c. search needs) shared-slice-read-c add-t19 returns-2 returns-3 add-i (λ c. search needs) loop-again returns-4)

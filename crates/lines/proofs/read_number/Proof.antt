@@ -27,18 +27,6 @@ abbrev μ-loop : tie.MeasureT-loop
 loop-holds : tie.Need-loop-holds Inv-loop μ-loop
 loop-holds c = begun-none (c .before .args .text .now) (c .before .args .at) (c .before .pre)
 
-add-loop : tie.Need-add-loop Inv-loop μ-loop
-add-loop c = search needs
-
-add-digit-of : tie.Need-add-digit-of Inv-loop μ-loop
-add-digit-of c = search needs
-
-shared-slice-read-digit-of : tie.Need-shared-slice-read-digit-of Inv-loop μ-loop
-shared-slice-read-digit-of c = search needs
-
-digit-of-requires : tie.Need-digit-of-requires Inv-loop μ-loop
-digit-of-requires c κs = search needs
-
 -- the turn that looked at a byte
 abbrev turn : tie.After-digit-of Inv-loop μ-loop → tie.In-loop Inv-loop μ-loop
 turn d = d .before .before
@@ -52,9 +40,6 @@ returns : tie.Need-returns Inv-loop μ-loop
 returns c =
     let i = turn (c .before .before) in
     none-at-once _ _ _ _ (i .before .loop .inv) (i .loop-test .taken) (c .if2 .taken) (ended (c .before))
-
-add-t12 : tie.Need-add-t12 Inv-loop μ-loop
-add-t12 c = search needs
 
 returns-2 : tie.Need-returns-2 Inv-loop μ-loop
 returns-2 c =
@@ -85,12 +70,6 @@ add-v c =
     let l = turn (e .before) .before .loop in
     omega (arith, l .inv .small, room-most (l .k) (l .inv .few), e .if1 .left)
 
-add-k : tie.Need-add-k Inv-loop μ-loop
-add-k c = search needs
-
-loop-less : tie.Need-loop-less Inv-loop μ-loop
-loop-less c = search needs
-
 loop-again : tie.Need-loop-again Inv-loop μ-loop
 loop-again c =
     let e = c .before .before in
@@ -106,22 +85,5 @@ returns-5 c = none-ended _ _ _ _ (c .before .loop .inv) (c .loop-test .left)
 pub read-number-spec : {M : Type 1} → statement M
 read-number-spec =
     tie.close
-    (tie.spec
-    Inv-loop
-    μ-loop
-    loop-holds
-    add-loop
-    add-digit-of
-    shared-slice-read-digit-of
-    digit-of-requires
-    returns
-    add-t12
-    returns-2
-    returns-3
-    returns-4
-    mul-v
-    add-v
-    add-k
-    loop-less
-    loop-again
-    returns-5)
+    (tie.spec Inv-loop μ-loop loop-holds (λ c. search needs) (λ c. search needs) (λ c. search needs) (λ c κs. search needs) returns
+    (λ c. search needs) returns-2 returns-3 returns-4 mul-v add-v (λ c. search needs) (λ c. search needs) loop-again returns-5)

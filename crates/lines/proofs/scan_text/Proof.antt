@@ -17,15 +17,6 @@ Inv-loop text n start at₀ fit₀ at fit = Opens text n start × Onto text n at
 abbrev μ-loop : tie.MeasureT-loop
 μ-loop text n start at₀ fit₀ at fit = length text - at
 
-read-count-requires : tie.Need-read-count-requires Inv-loop μ-loop
-read-count-requires c κs = search needs
-
-enum-told : tie.Need-enum-told Inv-loop μ-loop
-enum-told c = search needs
-
-enum-known-first : tie.Need-enum-known-first Inv-loop μ-loop
-enum-known-first c = search needs
-
 loop-holds : tie.Need-loop-holds Inv-loop μ-loop
 loop-holds c =
     let f = c .before .first .given in
@@ -105,20 +96,5 @@ returns-4 c =
 pub scan-text-spec : {M : Type 1} → statement M
 scan-text-spec =
     tie.close
-    (tie.spec
-    Inv-loop
-    μ-loop
-    read-count-requires
-    enum-told
-    enum-known-first
-    loop-holds
-    read-line-requires
-    returns
-    fits-requires
-    loop-less
-    loop-again
-    loop-less-2
-    loop-again-2
-    returns-2
-    returns-3
-    returns-4)
+    (tie.spec Inv-loop μ-loop (λ c κs. search needs) (λ c. search needs) (λ c. search needs) loop-holds read-line-requires returns
+    fits-requires loop-less loop-again loop-less-2 loop-again-2 returns-2 returns-3 returns-4)

@@ -6,12 +6,6 @@ use Rattle.listing.proofs.Fronts.{blank-verdict, blank-left, blank-vali
 use Rattle.listing.proofs.convert.Statement.{statement}
 use Rattle.listing.proofs.convert.Tie as tie
 
-import-requires : tie.Need-import-requires
-import-requires c κs = search needs
-
-enum-told : tie.Need-enum-told
-enum-told c = search needs
-
 -- where the function starts
 abbrev asked : tie.After-import → tie.Start
 asked i = i .before .before .before .before .before
@@ -23,18 +17,6 @@ put-file-requires c κs =
     let s = asked i in
     (blank-valid _ _ _ _ (s .pre .0) (i .import .ensures) (a .enum-told .given .1), s .pre .1)
 
-enum-known-verdict : tie.Need-enum-known-verdict
-enum-known-verdict c = search needs
-
-put-line-requires : tie.Need-put-line-requires
-put-line-requires c κs = search needs
-
-same-length : tie.Need-same-length
-same-length c = search needs
-
-same-length-2 : tie.Need-same-length-2
-same-length-2 c = search needs
-
 returns : tie.Need-returns
 returns c =
     let f = c .before .before in
@@ -43,12 +25,6 @@ returns c =
     let s = asked i in
     let e = i .import .ensures in
     converted-file _ _ _ _ (sym (blank-verdict _ _ _ _ (s .pre .0) e) ∙ a .enum-told .given .1) (blank-left _ _ _ _ (s .pre .0) e) (f .put-file .ensures)
-
-same-length-3 : tie.Need-same-length-3
-same-length-3 c = search needs
-
-same-length-4 : tie.Need-same-length-4
-same-length-4 c = search needs
 
 returns-2 : tie.Need-returns-2
 returns-2 c =
@@ -61,15 +37,5 @@ returns-2 c =
 pub convert-spec : {M : Type 1} → statement M
 convert-spec =
     tie.close
-    (tie.spec
-    import-requires
-    enum-told
-    put-file-requires
-    enum-known-verdict
-    put-line-requires
-    same-length
-    same-length-2
-    returns
-    same-length-3
-    same-length-4
-    returns-2)
+    (tie.spec (λ c κs. search needs) (λ c. search needs) put-file-requires (λ c. search needs) (λ c κs. search needs) (λ c. search needs)
+    (λ c. search needs) returns (λ c. search needs) (λ c. search needs) returns-2)

@@ -17,9 +17,6 @@ Inv-loop target₀ bytes len i₀ target i = (i ≤ len) × (length target ≡ l
 abbrev μ-loop : tie.MeasureT-loop
 μ-loop target₀ bytes len i₀ target i = len - i
 
-refused-requires : tie.Need-refused-requires Inv-loop μ-loop
-refused-requires c κs = search needs
-
 loop-holds : tie.Need-loop-holds Inv-loop μ-loop
 loop-holds c = (omega arith, c .before .before .before .pre, copied-none _ _)
 
@@ -42,19 +39,10 @@ array-read-target c = omega (arith, c .loop-test .taken, line (c .before) .refus
 slice-write-target : tie.Need-slice-write-target Inv-loop μ-loop
 slice-write-target c = into c
 
-add-i : tie.Need-add-i Inv-loop μ-loop
-add-i c = search needs
-
-loop-less : tie.Need-loop-less Inv-loop μ-loop
-loop-less c = search needs
-
 loop-again : tie.Need-loop-again Inv-loop μ-loop
 loop-again c =
     let l = c .before .loop in
     (omega arith, length-set (l .target) (l .i) _ ∙ l .inv .1, copied-more _ _ _ (inside c) (into c) (l .inv .2))
-
-same-length : tie.Need-same-length Inv-loop μ-loop
-same-length c = search needs
 
 returns : tie.Need-returns Inv-loop μ-loop
 returns c =
@@ -65,15 +53,5 @@ returns c =
 pub put-line-spec : {M : Type 1} → statement M
 put-line-spec =
     tie.close
-    (tie.spec
-    Inv-loop
-    μ-loop
-    refused-requires
-    loop-holds
-    array-read-target
-    slice-write-target
-    add-i
-    loop-less
-    loop-again
-    same-length
-    returns)
+    (tie.spec Inv-loop μ-loop (λ c κs. search needs) loop-holds array-read-target slice-write-target (λ c. search needs)
+    (λ c. search needs) loop-again (λ c. search needs) returns)

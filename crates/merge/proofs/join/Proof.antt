@@ -16,9 +16,6 @@ Inv-loop t₀ kept gone n c₀ t c = (c ≤ n) × Begun kept gone t₀ t c
 abbrev μ-loop : tie.MeasureT-loop
 μ-loop t₀ kept gone n c₀ t c = n - c
 
-room-requires : tie.Need-room-requires Inv-loop μ-loop
-room-requires c κs = search needs
-
 loop-holds : tie.Need-loop-holds Inv-loop μ-loop
 loop-holds c = (omega arith, begun-start _ _ _ (c .before .before .before .pre .2))
 
@@ -40,9 +37,6 @@ rename-run-requires c κs =
 add-c : tie.Need-add-c Inv-loop μ-loop
 add-c c = omega (arith, fits (c .before .before .before .before .before))
 
-loop-less : tie.Need-loop-less Inv-loop μ-loop
-loop-less c = search needs
-
 loop-again : tie.Need-loop-again Inv-loop μ-loop
 loop-again c =
     let r = c .before .before in
@@ -58,9 +52,6 @@ put-requires c κs =
     let r = c .before .before .before in
     omega (arith, r .rename-run2 .ensures _ (r .before .before .before .loop .inv .1) .size)
 
-same-length : tie.Need-same-length Inv-loop μ-loop
-same-length c = search needs
-
 returns : tie.Need-returns Inv-loop μ-loop
 returns c =
     let p = c .before .before in
@@ -72,18 +63,5 @@ returns c =
 pub join-spec : {M : Type 1} → statement M
 join-spec =
     tie.close
-    (tie.spec
-    Inv-loop
-    μ-loop
-    room-requires
-    loop-holds
-    add-loop
-    add-rename-run
-    rename-run-requires
-    add-c
-    loop-less
-    loop-again
-    rename-run-requires-2
-    put-requires
-    same-length
-    returns)
+    (tie.spec Inv-loop μ-loop (λ c κs. search needs) loop-holds add-loop add-rename-run rename-run-requires add-c (λ c. search needs)
+    loop-again rename-run-requires-2 put-requires (λ c. search needs) returns)

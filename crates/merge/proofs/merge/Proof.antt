@@ -10,15 +10,6 @@ use borrow.Author.Needs.{needs}
 use Rattle.merge.proofs.merge.Statement.{statement}
 use Rattle.merge.proofs.merge.Tie as tie
 
-verdict-of-requires : tie.Need-verdict-of-requires
-verdict-of-requires c κs = search needs
-
-enum-known-found : tie.Need-enum-known-found
-enum-known-found c = search needs
-
-enum-told : tie.Need-enum-told
-enum-told c = search needs
-
 -- where the verdict is told to be acceptance, the table and the two cells are as a merge asks
 abbrev asked : tie.After-enum-told → tie.Start
 asked c = c .before .before .before .before .before
@@ -34,9 +25,6 @@ join-requires c κs =
     let m = mergeable (c .before .before) in
     (c .before .if1 .taken, m .second .inside, m .valid)
 
-same-length : tie.Need-same-length
-same-length c = search needs
-
 returns : tie.Need-returns
 returns c =
     let i = c .before .before .before .before in
@@ -47,14 +35,8 @@ join-requires-2 c κs =
     let m = mergeable (c .before .before) in
     (omega (arith, c .before .if1 .left, m .different), m .first .inside, m .valid)
 
-same-length-2 : tie.Need-same-length-2
-same-length-2 c = search needs
-
 returns-2 : tie.Need-returns-2
 returns-2 c = ends-refused _ _ _ _ (sym (c .before .before .before .verdict-of .ensures) ∙ c .before .found .given .1)
-
-same-length-3 : tie.Need-same-length-3
-same-length-3 c = search needs
 
 returns-3 : tie.Need-returns-3
 returns-3 c =
@@ -65,15 +47,5 @@ returns-3 c =
 pub merge-spec : {M : Type 1} → statement M
 merge-spec =
     tie.close
-    (tie.spec
-    verdict-of-requires
-    enum-known-found
-    enum-told
-    join-requires
-    same-length
-    returns
-    join-requires-2
-    same-length-2
-    returns-2
-    same-length-3
-    returns-3)
+    (tie.spec (λ c κs. search needs) (λ c. search needs) (λ c. search needs) join-requires (λ c. search needs) returns join-requires-2
+    (λ c. search needs) returns-2 (λ c. search needs) returns-3)

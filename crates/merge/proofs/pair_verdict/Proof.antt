@@ -10,18 +10,12 @@ use Rattle.merge.proofs.Pairs.{first-not-live, second-not-live, one-cel
 use Rattle.merge.proofs.pair_verdict.Statement.{statement}
 use Rattle.merge.proofs.pair_verdict.Tie as tie
 
-live-requires : tie.Need-live-requires
-live-requires c κs = search needs
-
 returns : tie.Need-returns
 returns c = first-not-live _ _ _ (sym (c .before .live .ensures) ∙ not-true (c .before .live .result) (c .if1 .taken))
 
 -- past the first test the first cell is live,
 live-first : (c : tie.Else1) → live (c .before .before .before .args .t .now) (c .before .before .before .args .a) ≡ true
 live-first c = sym (c .before .live .ensures) ∙ not-false (c .before .live .result) (c .if1 .left)
-
-live-requires-2 : tie.Need-live-requires-2
-live-requires-2 c κs = search needs
 
 returns-2 : tie.Need-returns-2
 returns-2 c =
@@ -68,13 +62,4 @@ returns-5 c =
 pub pair-verdict-spec : {M : Type 1} → statement M
 pair-verdict-spec =
     tie.close
-    (tie.spec
-    live-requires
-    returns
-    live-requires-2
-    returns-2
-    returns-3
-    dim-requires
-    dim-requires-2
-    returns-4
-    returns-5)
+    (tie.spec (λ c κs. search needs) returns (λ c κs. search needs) returns-2 returns-3 dim-requires dim-requires-2 returns-4 returns-5)

@@ -22,38 +22,8 @@ Inv-loop t c kept gone p x y₀ l₀ y l =
 abbrev μ-loop : tie.MeasureT-loop
 μ-loop t c kept gone p x y₀ l₀ y l = faces - l
 
-dim-requires : tie.Need-dim-requires Inv-loop μ-loop
-dim-requires c κs = search needs
-
-sent-requires : tie.Need-sent-requires Inv-loop μ-loop
-sent-requires c κs = search needs
-
-faces-requires : tie.Need-faces-requires Inv-loop μ-loop
-faces-requires c κs = search needs
-
 loop-holds : tie.Need-loop-holds Inv-loop μ-loop
 loop-holds c = (search needs, search needs, below-none _)
-
-mul-sent : tie.Need-mul-sent Inv-loop μ-loop
-mul-sent c = search needs
-
-array-read-sent : tie.Need-array-read-sent Inv-loop μ-loop
-array-read-sent c = search needs
-
-sent-requires-2 : tie.Need-sent-requires-2 Inv-loop μ-loop
-sent-requires-2 c κs = search needs
-
-mul-y : tie.Need-mul-y Inv-loop μ-loop
-mul-y c = search needs
-
-array-write-y : tie.Need-array-write-y Inv-loop μ-loop
-array-write-y c = search needs
-
-add-l : tie.Need-add-l Inv-loop μ-loop
-add-l c = search needs
-
-loop-less : tie.Need-loop-less Inv-loop μ-loop
-loop-less c = search needs
 
 loop-again : tie.Need-loop-again Inv-loop μ-loop
 loop-again c =
@@ -66,12 +36,6 @@ loop-again c =
           (c .sent2 .ensures ∙ ap (sent _ _) (faces-at (a .t .now) (a .c) _ (p .before .faces .ensures) (l .l) (search needs)))
           (l .inv .2),
     )
-
-put-requires : tie.Need-put-requires Inv-loop μ-loop
-put-requires c κs = search needs
-
-same-length : tie.Need-same-length Inv-loop μ-loop
-same-length c = search needs
 
 returns : tie.Need-returns Inv-loop μ-loop
 returns c =
@@ -89,21 +53,6 @@ returns c =
 pub rename-spec : {M : Type 1} → statement M
 rename-spec =
     tie.close
-    (tie.spec
-    Inv-loop
-    μ-loop
-    dim-requires
-    sent-requires
-    faces-requires
-    loop-holds
-    mul-sent
-    array-read-sent
-    sent-requires-2
-    mul-y
-    array-write-y
-    add-l
-    loop-less
-    loop-again
-    put-requires
-    same-length
-    returns)
+    (tie.spec Inv-loop μ-loop (λ c κs. search needs) (λ c κs. search needs) (λ c κs. search needs) loop-holds (λ c. search needs)
+    (λ c. search needs) (λ c κs. search needs) (λ c. search needs) (λ c. search needs) (λ c. search needs) (λ c. search needs) loop-again
+    (λ c κs. search needs) (λ c. search needs) returns)

@@ -29,12 +29,6 @@ rename-requires c κs =
       begins-none _ _ _ (l .c) (l .c) (l .t) (omega (arith, l .inv .1, c .before .loop-test .taken, s .pre .1)) (l .inv .2 (s .pre .2 .0) (s .pre .2 .1)),
     )
 
-add-c : tie.Need-add-c Inv-loop μ-loop
-add-c c = search needs
-
-loop-less : tie.Need-loop-less Inv-loop μ-loop
-loop-less c = search needs
-
 loop-again : tie.Need-loop-again Inv-loop μ-loop
 loop-again c =
     let r = c .before .before .rename in
@@ -46,9 +40,6 @@ loop-again c =
       λ t₀ b. begun-more _ _ t₀ (l .c) (l .t) _ (omega (arith, l .inv .1, i .loop-test .taken, s .pre .1)) (l .inv .2 t₀ b) (r .ensures),
     )
 
-same-length : tie.Need-same-length Inv-loop μ-loop
-same-length c = search needs
-
 returns : tie.Need-returns Inv-loop μ-loop
 returns c =
     let l = c .before .loop in
@@ -59,13 +50,4 @@ returns c =
 pub rename-run-spec : {M : Type 1} → statement M
 rename-run-spec =
     tie.close
-    (tie.spec
-    Inv-loop
-    μ-loop
-    loop-holds
-    rename-requires
-    add-c
-    loop-less
-    loop-again
-    same-length
-    returns)
+    (tie.spec Inv-loop μ-loop loop-holds rename-requires (λ c. search needs) (λ c. search needs) loop-again (λ c. search needs) returns)

@@ -17,32 +17,8 @@ Inv-loop t a b x y j₀ j = (j ≤ faces) × ((k : ℕ) → k < j → getD x k 0
 abbrev μ-loop : tie.MeasureT-loop
 μ-loop t a b x y j₀ j = faces - j
 
-faces-requires : tie.Need-faces-requires Inv-loop μ-loop
-faces-requires c κs = search needs
-
-faces-requires-2 : tie.Need-faces-requires-2 Inv-loop μ-loop
-faces-requires-2 c κs = search needs
-
 loop-holds : tie.Need-loop-holds Inv-loop μ-loop
 loop-holds c = (search needs, below-none _)
-
-mul-if1 : tie.Need-mul-if1 Inv-loop μ-loop
-mul-if1 c = search needs
-
-array-read-if1 : tie.Need-array-read-if1 Inv-loop μ-loop
-array-read-if1 c = search needs
-
-mul-if1-2 : tie.Need-mul-if1-2 Inv-loop μ-loop
-mul-if1-2 c = search needs
-
-array-read-if1-2 : tie.Need-array-read-if1-2 Inv-loop μ-loop
-array-read-if1-2 c = search needs
-
-add-j : tie.Need-add-j Inv-loop μ-loop
-add-j c = search needs
-
-loop-less : tie.Need-loop-less Inv-loop μ-loop
-loop-less c = search needs
 
 loop-again : tie.Need-loop-again Inv-loop μ-loop
 loop-again c = (search needs, below-more _ _ (c .before .before .loop .inv .1) (omega arith))
@@ -61,18 +37,5 @@ returns-2 c =
 pub same-faces-spec : {M : Type 1} → statement M
 same-faces-spec =
     tie.close
-    (tie.spec
-    Inv-loop
-    μ-loop
-    faces-requires
-    faces-requires-2
-    loop-holds
-    mul-if1
-    array-read-if1
-    mul-if1-2
-    array-read-if1-2
-    returns
-    add-j
-    loop-less
-    loop-again
-    returns-2)
+    (tie.spec Inv-loop μ-loop (λ c κs. search needs) (λ c κs. search needs) loop-holds (λ c. search needs) (λ c. search needs)
+    (λ c. search needs) (λ c. search needs) returns (λ c. search needs) (λ c. search needs) loop-again returns-2)

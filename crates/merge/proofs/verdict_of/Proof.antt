@@ -10,12 +10,6 @@ use borrow.Author.Needs.{needs}
 use Rattle.merge.proofs.verdict_of.Statement.{statement}
 use Rattle.merge.proofs.verdict_of.Tie as tie
 
-joinable-requires : tie.Need-joinable-requires
-joinable-requires c κs = search needs
-
-enum-told : tie.Need-enum-told
-enum-told c = search needs
-
 abbrev asked : tie.After-enum-told → tie.Start
 asked c = c .before .before .before .before
 
@@ -31,9 +25,6 @@ same-faces-requires c κs = joined-inside _ _ _ (accepted c)
 returns : tie.Need-returns
 returns c = faces-differ _ _ _ (accepted (c .before .before)) (sym (c .before .same-faces .ensures) ∙ not-true _ (c .if1 .taken))
 
-enum-known-found : tie.Need-enum-known-found
-enum-known-found c = search needs
-
 returns-2 : tie.Need-returns-2
 returns-2 c = faces-agree _ _ _ (accepted (c .before .before)) (sym (c .before .same-faces .ensures) ∙ not-false _ (c .if1 .left))
 
@@ -43,11 +34,4 @@ returns-3 c = unjoinable-refuses _ _ _ _ (sym (c .before .before .before .joinab
 pub verdict-of-spec : {M : Type 1} → statement M
 verdict-of-spec =
     tie.close
-    (tie.spec
-    joinable-requires
-    enum-told
-    same-faces-requires
-    returns
-    enum-known-found
-    returns-2
-    returns-3)
+    (tie.spec (λ c κs. search needs) (λ c. search needs) same-faces-requires returns (λ c. search needs) returns-2 returns-3)

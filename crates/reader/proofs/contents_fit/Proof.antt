@@ -27,9 +27,6 @@ abbrev μ-loop : tie.MeasureT-loop
 returns : tie.Need-returns Inv-loop μ-loop
 returns c = unfit-short _ (c .before .before .args .file .now) (c .if1 .taken)
 
-size-in-requires : tie.Need-size-in-requires Inv-loop μ-loop
-size-in-requires c κs = search needs
-
 returns-2 : tie.Need-returns-2 Inv-loop μ-loop
 returns-2 c =
     unfit-cells _ _ (c .before .size-in .result) (c .before .size-in .ensures) (λ e. omega (arith, e, c .if2 .taken))
@@ -55,12 +52,6 @@ returns-3 c =
 
 count-in-requires : tie.Need-count-in-requires Inv-loop μ-loop
 count-in-requires c κs = omega arith
-
-cast-start : tie.Need-cast-start Inv-loop μ-loop
-cast-start c = search needs
-
-record-size-requires : tie.Need-record-size-requires Inv-loop μ-loop
-record-size-requires c κs = search needs
 
 -- a count has 16 bits and a record 16 bytes at most
 fitting : (c : tie.After-record-size Inv-loop μ-loop) → c .before .count-in .result * c .record-size .result ≤ longestBody
@@ -113,22 +104,5 @@ returns-5 c =
 pub contents-fit-spec : {M : Type 1} → statement M
 contents-fit-spec =
     tie.close
-    (tie.spec
-    Inv-loop
-    μ-loop
-    returns
-    size-in-requires
-    returns-2
-    loop-holds
-    offset-in-requires
-    returns-3
-    count-in-requires
-    cast-start
-    record-size-requires
-    mul-start
-    add-start
-    add-p
-    loop-less
-    loop-again
-    returns-4
-    returns-5)
+    (tie.spec Inv-loop μ-loop returns (λ c κs. search needs) returns-2 loop-holds offset-in-requires returns-3 count-in-requires
+    (λ c. search needs) (λ c κs. search needs) mul-start add-start add-p loop-less loop-again returns-4 returns-5)

@@ -26,31 +26,10 @@ fitted c = c .before .before
 abbrev taken : tie.After-audit → tie.After-take-bodies
 taken c = c .before .before .before .before .before
 
-empty-requires : tie.Need-empty-requires
-empty-requires c κs = search needs
-
-enum-known-emptied : tie.Need-enum-known-emptied
-enum-known-emptied c = search needs
-
-same-length : tie.Need-same-length
-same-length c = search needs
-
 returns : tie.Need-returns
 returns c =
     let a = c .before .before .before .before .before in
     ends-length (asked a .args .t .now) _ _ _ (sym (a .empty .ensures .answer) ∙ c .before .emptied .given .1) (a .empty .ensures .left)
-
-enum-told : tie.Need-enum-told
-enum-told c = search needs
-
-room-requires : tie.Need-room-requires
-room-requires c κs = search needs
-
-contents-fit-requires : tie.Need-contents-fit-requires
-contents-fit-requires c κs = search needs
-
-same-length-2 : tie.Need-same-length-2
-same-length-2 c = search needs
 
 -- the length is a table's, from there on
 cells : (o : tie.After-room) → OfCells (asked (emptied o) .args .t .now) (o .room .result)
@@ -73,12 +52,6 @@ take-bodies-requires c κs =
     let o = sized (c .before) in
     (sym (contents (c .before)), starts (cells o) _ (emptied o .empty .ensures .left) .2)
 
-refused-requires : tie.Need-refused-requires
-refused-requires c κs = search needs
-
-same-length-3 : tie.Need-same-length-3
-same-length-3 c = search needs
-
 returns-3 : tie.Need-returns-3
 returns-3 c =
     let z = c .before .before in
@@ -88,9 +61,6 @@ returns-3 c =
     ends (cells o) _ _ _ _ (says-number _ _ (contents (fitted k)) (sym (not-true _ (w .if2 .taken)) ∙ k .take-bodies .ensures .0))
     (z .refused .ensures .answer)
     (cleared (cells o) _ _ (k .take-bodies .kept .0 ∙ emptied o .empty .kept .0) (z .refused .ensures .left))
-
-audit-requires : tie.Need-audit-requires
-audit-requires c κs = search needs
 
 -- every body was taken in, so the audit decides the last ground
 filled : (m : tie.After-audit) → let o = sized (fitted (taken m)) in taken m .take-bodies .last .0 ≡ described (o .room .result) (asked (emptied o) .args .file .now)
@@ -104,25 +74,10 @@ audited m =
     m .audit .ensures
     ∙ says-audit _ _ _ (begun .0) (begun .1) (contents (fitted k)) (sym (not-false _ (m .before .before .if2 .left)) ∙ k .take-bodies .ensures .0) (filled m)
 
-enum-told-2 : tie.Need-enum-told-2
-enum-told-2 c = search needs
-
-enum-known-found : tie.Need-enum-known-found
-enum-known-found c = search needs
-
-refused-requires-2 : tie.Need-refused-requires-2
-refused-requires-2 c κs = search needs
-
-same-length-4 : tie.Need-same-length-4
-same-length-4 c = search needs
-
 returns-4 : tie.Need-returns-4
 returns-4 c =
     let m = c .before .before in
     ends (cells (sized (fitted (taken m)))) _ _ _ _ (sym (c .enum-told2 .given .1) ∙ audited m) refl (filled m)
-
-same-length-5 : tie.Need-same-length-5
-same-length-5 c = search needs
 
 returns-5 : tie.Need-returns-5
 returns-5 c =
@@ -137,25 +92,7 @@ returns-5 c =
 pub read-spec : {M : Type 1} → statement M
 read-spec =
     tie.close
-    (tie.spec
-    empty-requires
-    enum-known-emptied
-    same-length
-    returns
-    enum-told
-    room-requires
-    contents-fit-requires
-    same-length-2
-    returns-2
-    take-bodies-requires
-    refused-requires
-    same-length-3
-    returns-3
-    audit-requires
-    enum-told-2
-    enum-known-found
-    refused-requires-2
-    same-length-4
-    returns-4
-    same-length-5
+    (tie.spec (λ c κs. search needs) (λ c. search needs) (λ c. search needs) returns (λ c. search needs) (λ c κs. search needs)
+    (λ c κs. search needs) (λ c. search needs) returns-2 take-bodies-requires (λ c κs. search needs) (λ c. search needs) returns-3
+    (λ c κs. search needs) (λ c. search needs) (λ c. search needs) (λ c κs. search needs) (λ c. search needs) returns-4 (λ c. search needs)
     returns-5)

@@ -3,8 +3,5 @@ use borrow.Author.Needs.{needs}
 use Rattle.reader.proofs.refused.Statement.{statement}
 use Rattle.reader.proofs.refused.Tie as tie
 
-returns : tie.Need-returns
-returns c = search needs
-
 pub refused-spec : {M : Type 1} → statement M
-refused-spec = tie.close (tie.spec (λ c κs. search needs) (λ c. search needs) returns)
+refused-spec = tie.close (tie.spec (λ c κs. search needs) (λ c. search needs) (λ c. search needs))

@@ -52,9 +52,6 @@ loop-again c =
       rw (not-false (body .result) (c .if1 .left)) at (body .ensures),
     )
 
-same-length-2 : tie.Need-same-length-2 Inv-loop μ-loop
-same-length-2 c = search needs
-
 returns-2 : tie.Need-returns-2 Inv-loop μ-loop
 returns-2 c =
     let l = c .before .loop in
@@ -64,15 +61,4 @@ returns-2 c =
 pub take-bodies-spec : {M : Type 1} → statement M
 take-bodies-spec =
     tie.close
-    (tie.spec
-    Inv-loop
-    μ-loop
-    loop-holds
-    take-body-requires
-    same-length
-    returns
-    add-p
-    loop-less
-    loop-again
-    same-length-2
-    returns-2)
+    (tie.spec Inv-loop μ-loop loop-holds take-body-requires same-length returns add-p loop-less loop-again (λ c. search needs) returns-2)

@@ -68,25 +68,6 @@ returns-7 c =
 pub take-body-spec : {M : Type 1} → statement M
 take-body-spec =
     tie.close
-    (tie.spec
-    take-records-requires
-    take-records-requires-2
-    take-records-requires-3
-    take-records-requires-4
-    take-records-requires-5
-    take-records-requires-6
-    take-records-requires-7
-    (λ c. search needs)
-    returns
-    (λ c. search needs)
-    returns-2
-    (λ c. search needs)
-    returns-3
-    (λ c. search needs)
-    returns-4
-    (λ c. search needs)
-    returns-5
-    (λ c. search needs)
-    returns-6
-    (λ c. search needs)
-    returns-7)
+    (tie.spec take-records-requires take-records-requires-2 take-records-requires-3 take-records-requires-4 take-records-requires-5
+    take-records-requires-6 take-records-requires-7 (λ c. search needs) returns (λ c. search needs) returns-2 (λ c. search needs) returns-3
+    (λ c. search needs) returns-4 (λ c. search needs) returns-5 (λ c. search needs) returns-6 (λ c. search needs) returns-7)

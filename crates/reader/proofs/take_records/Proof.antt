@@ -63,9 +63,6 @@ inside c =
 two-at-requires : tie.Need-two-at-requires Inv-loop μ-loop
 two-at-requires c κs = omega (arith, inside c)
 
-cast-c : tie.Need-cast-c Inv-loop μ-loop
-cast-c c = search needs
-
 -- a number that fails one of the three tests is not in order
 fails :
     (c : tie.After-two-at Inv-loop μ-loop) →
@@ -77,14 +74,8 @@ fails c wrong =
     let l = i .before .loop in
     refused _ _ _ (l .t) (l .at) (l .low) (l .i) (l .inv .2) (asked i .pre .0) (c .two-at .result) (counted i) (c .two-at .ensures) wrong
 
-same-length : tie.Need-same-length Inv-loop μ-loop
-same-length c = search needs
-
 returns : tie.Need-returns Inv-loop μ-loop
 returns c = fails (c .before) (λ low high free. omega (arith, low, c .if1 .taken))
-
-same-length-2 : tie.Need-same-length-2 Inv-loop μ-loop
-same-length-2 c = search needs
 
 returns-2 : tie.Need-returns-2 Inv-loop μ-loop
 returns-2 c = fails (c .before .before) (λ low high free. omega (arith, high, c .if2 .taken))
@@ -95,9 +86,6 @@ cell c = omega (arith, c .if2 .left, c .before .before .before .before .loop .in
 
 dim-requires : tie.Need-dim-requires Inv-loop μ-loop
 dim-requires c κs = cell (c .before)
-
-same-length-3 : tie.Need-same-length-3 Inv-loop μ-loop
-same-length-3 c = search needs
 
 returns-3 : tie.Need-returns-3 Inv-loop μ-loop
 returns-3 c =
@@ -146,9 +134,6 @@ loop-again c =
           (put .ensures),
     )
 
-same-length-4 : tie.Need-same-length-4 Inv-loop μ-loop
-same-length-4 c = search needs
-
 returns-4 : tie.Need-returns-4 Inv-loop μ-loop
 returns-4 c =
     let l = c .before .loop in
@@ -157,28 +142,6 @@ returns-4 c =
 pub take-records-spec : {M : Type 1} → statement M
 take-records-spec =
     tie.close
-    (tie.spec
-    Inv-loop
-    μ-loop
-    count-in-requires
-    face-place-requires
-    offset-in-requires
-    loop-holds
-    two-at-requires
-    cast-c
-    same-length
-    returns
-    same-length-2
-    returns-2
-    dim-requires
-    same-length-3
-    returns-3
-    faces-at-requires
-    put-requires
-    add-low
-    add-at
-    add-i
-    loop-less
-    loop-again
-    same-length-4
-    returns-4)
+    (tie.spec Inv-loop μ-loop count-in-requires face-place-requires offset-in-requires loop-holds two-at-requires (λ c. search needs)
+    (λ c. search needs) returns (λ c. search needs) returns-2 dim-requires (λ c. search needs) returns-3 faces-at-requires put-requires
+    add-low add-at add-i loop-less loop-again (λ c. search needs) returns-4)

@@ -29,9 +29,6 @@ loop-holds c =
 face-requires : tie.Need-face-requires Inv-loop μ-loop
 face-requires c κs = (c .before .before .before .before .pre .inside, omega (arith, c .before .before .before .before .pre .places))
 
-cast-put : tie.Need-cast-put Inv-loop μ-loop
-cast-put c = search needs
-
 put-requires : tie.Need-put-requires Inv-loop μ-loop
 put-requires c κs =
     let i = c .before .before in
@@ -40,12 +37,6 @@ put-requires c κs =
     let a = s .args in
     place-allowed (a .t .now) (a .c) (back (a .x)) (a .result .now) (adding-back (s .fits .x) (s .pre)) (l .loop .result) (l .loop .j)
     (c .face .result) (i .loop-test .taken) (c .face .ensures) (l .loop .inv .1) (l .loop .inv .2)
-
-add-j : tie.Need-add-j Inv-loop μ-loop
-add-j c = search needs
-
-loop-less : tie.Need-loop-less Inv-loop μ-loop
-loop-less c = search needs
 
 loop-again : tie.Need-loop-again Inv-loop μ-loop
 loop-again c =
@@ -57,9 +48,6 @@ loop-again c =
     (c .before .before .face .result) (i .loop-test .taken) (c .before .before .face .ensures) (l .loop .inv .1) (l .loop .inv .2) (c .before .put .last .0) (c .before .put .ensures) in
     (omega arith, done .0, done .1)
 
-same-length : tie.Need-same-length Inv-loop μ-loop
-same-length c = search needs
-
 returns : tie.Need-returns Inv-loop μ-loop
 returns c =
     let l = c .before in
@@ -70,15 +58,5 @@ returns c =
 pub add-cell-spec : {M : Type 1} → statement M
 add-cell-spec =
     tie.close
-    (tie.spec
-    Inv-loop
-    μ-loop
-    loop-holds
-    face-requires
-    cast-put
-    put-requires
-    add-j
-    loop-less
-    loop-again
-    same-length
-    returns)
+    (tie.spec Inv-loop μ-loop loop-holds face-requires (λ c. search needs) put-requires (λ c. search needs) (λ c. search needs) loop-again
+    (λ c. search needs) returns)

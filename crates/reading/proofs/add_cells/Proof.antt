@@ -20,17 +20,8 @@ Inv-loop t chain p result₀ used c₀ c-end result c = (c ≤ length chain) × 
 abbrev μ-loop : tie.MeasureT-loop
 μ-loop t chain p result₀ used c₀ c-end result c = c-end - c
 
-used-requires : tie.Need-used-requires Inv-loop μ-loop
-used-requires c κs = search needs
-
 loop-holds : tie.Need-loop-holds Inv-loop μ-loop
 loop-holds c = (search needs, refl, none-reached _ _ _ _ (c .before .before .pre))
-
-mul-x : tie.Need-mul-x Inv-loop μ-loop
-mul-x c = search needs
-
-shared-slice-copy-out-x : tie.Need-shared-slice-copy-out-x Inv-loop μ-loop
-shared-slice-copy-out-x c = search needs
 
 add-cell-requires : tie.Need-add-cell-requires Inv-loop μ-loop
 add-cell-requires c κs =
@@ -38,12 +29,6 @@ add-cell-requires c κs =
     let u = l .before in
     cell-fits-back _ _ _ _ (u .before .before .pre) _ _ (l .loop .inv .2) _ (record { sfits = c .before .before .x .given }) (c .before .before .before .loop-test .taken) (c .before .if1 .taken)
     (omega (arith, u .used .ensures .0))
-
-add-c : tie.Need-add-c Inv-loop μ-loop
-add-c c = search needs
-
-loop-less : tie.Need-loop-less Inv-loop μ-loop
-loop-less c = search needs
 
 loop-again : tie.Need-loop-again Inv-loop μ-loop
 loop-again c =
@@ -68,16 +53,5 @@ returns c = let l = c .before in all-reached _ _ _ _ (l .before .before .before 
 pub add-cells-spec : {M : Type 1} → statement M
 add-cells-spec =
     tie.close
-    (tie.spec
-    Inv-loop
-    μ-loop
-    used-requires
-    loop-holds
-    mul-x
-    shared-slice-copy-out-x
-    add-cell-requires
-    add-c
-    loop-less
-    loop-again
-    same-length
-    returns)
+    (tie.spec Inv-loop μ-loop (λ c κs. search needs) loop-holds (λ c. search needs) (λ c. search needs) add-cell-requires
+    (λ c. search needs) (λ c. search needs) loop-again same-length returns)

@@ -5,31 +5,13 @@ use Rattle.reading.proofs.Judging.{addable, ends-refused, ends-accepted
 use Rattle.reading.proofs.boundary.Statement.{statement}
 use Rattle.reading.proofs.boundary.Tie as tie
 
-judge-requires : tie.Need-judge-requires
-judge-requires c κs = search needs
-
-enum-known-found : tie.Need-enum-known-found
-enum-known-found c = search needs
-
-enum-told : tie.Need-enum-told
-enum-told c = search needs
-
-clear-requires : tie.Need-clear-requires
-clear-requires c κs = search needs
-
 add-cells-requires : tie.Need-add-cells-requires
 add-cells-requires c κs =
     let k = c .before .before .before .before in
     addable _ _ _ _ _ _ (k .before .before .judge .ensures) (k .enum-told .given .1) (c .before .before .clear .ensures)
 
-same-length : tie.Need-same-length
-same-length c = search needs
-
 returns : tie.Need-returns
 returns c = ends-refused _ _ _ _ _ _ (c .before .before .before .judge .ensures) (c .before .found .given .1)
-
-same-length-2 : tie.Need-same-length-2
-same-length-2 c = search needs
 
 returns-2 : tie.Need-returns-2
 returns-2 c =
@@ -39,13 +21,5 @@ returns-2 c =
 pub boundary-spec : {M : Type 1} → statement M
 boundary-spec =
     tie.close
-    (tie.spec
-    judge-requires
-    enum-known-found
-    enum-told
-    clear-requires
-    add-cells-requires
-    same-length
-    returns
-    same-length-2
-    returns-2)
+    (tie.spec (λ c κs. search needs) (λ c. search needs) (λ c. search needs) (λ c κs. search needs) add-cells-requires (λ c. search needs)
+    returns (λ c. search needs) returns-2)

@@ -23,27 +23,12 @@ abbrev μ-loop : tie.MeasureT-loop
 loop-holds : tie.Need-loop-holds Inv-loop μ-loop
 loop-holds c = (search needs, refl, all-zero (smallAt (c .args .chain .now)))
 
-mul-small : tie.Need-mul-small Inv-loop μ-loop
-mul-small c = search needs
-
-shared-slice-copy-out-small : tie.Need-shared-slice-copy-out-small Inv-loop μ-loop
-shared-slice-copy-out-small c = search needs
-
-small-requires : tie.Need-small-requires Inv-loop μ-loop
-small-requires c κs = search needs
-
 returns : tie.Need-returns Inv-loop μ-loop
 returns c =
     let l = c .before .before .before .before in
     let a = l .before .args in
     small-stops (a .chain .now) (l .loop .c) (c .before .before .before .loop-test .taken)
     (small-answer (getD (a .chain .now) (l .loop .c) (pos 0)) (c .before .small .result) _ (record { sfits = c .before .before .small-arg .given }) (c .before .small .ensures) (not-true _ (c .if1 .taken)))
-
-add-c : tie.Need-add-c Inv-loop μ-loop
-add-c c = search needs
-
-loop-less : tie.Need-loop-less Inv-loop μ-loop
-loop-less c = search needs
 
 loop-again : tie.Need-loop-again Inv-loop μ-loop
 loop-again c =
@@ -64,15 +49,5 @@ returns-2 c =
 pub coefficients-small-spec : {M : Type 1} → statement M
 coefficients-small-spec =
     tie.close
-    (tie.spec
-    Inv-loop
-    μ-loop
-    loop-holds
-    mul-small
-    shared-slice-copy-out-small
-    small-requires
-    returns
-    add-c
-    loop-less
-    loop-again
-    returns-2)
+    (tie.spec Inv-loop μ-loop loop-holds (λ c. search needs) (λ c. search needs) (λ c κs. search needs) returns (λ c. search needs)
+    (λ c. search needs) loop-again returns-2)

@@ -7,20 +7,8 @@ use Rattle.reading.proofs.Judging.{lengths-refused, audit-refused, audi
 use Rattle.reading.proofs.judge.Statement.{statement}
 use Rattle.reading.proofs.judge.Tie as tie
 
-lengths-fit-requires : tie.Need-lengths-fit-requires
-lengths-fit-requires c κs = search needs
-
 returns : tie.Need-returns
 returns c = lengths-refused _ _ _ _ (sym (c .before .lengths-fit .ensures) ∙ not-true _ (c .if1 .taken))
-
-audit-requires : tie.Need-audit-requires
-audit-requires c κs = search needs
-
-enum-known-found : tie.Need-enum-known-found
-enum-known-found c = search needs
-
-enum-told : tie.Need-enum-told
-enum-told c = search needs
 
 judge-chain-requires : tie.Need-judge-chain-requires
 judge-chain-requires c κs =
@@ -40,12 +28,5 @@ returns-3 c =
 pub judge-spec : {M : Type 1} → statement M
 judge-spec =
     tie.close
-    (tie.spec
-    lengths-fit-requires
-    returns
-    audit-requires
-    enum-known-found
-    enum-told
-    judge-chain-requires
-    returns-2
+    (tie.spec (λ c κs. search needs) returns (λ c κs. search needs) (λ c. search needs) (λ c. search needs) judge-chain-requires returns-2
     returns-3)

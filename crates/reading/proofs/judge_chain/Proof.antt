@@ -9,12 +9,6 @@ use Rattle.reading.proofs.judge_chain.Tie as tie
 returns : tie.Need-returns
 returns c = dimension-above _ _ _ (c .if1 .taken)
 
-coefficients-small-requires : tie.Need-coefficients-small-requires
-coefficients-small-requires c κs = search needs
-
-coefficients-placed-requires : tie.Need-coefficients-placed-requires
-coefficients-placed-requires c κs = search needs
-
 returns-2 : tie.Need-returns-2
 returns-2 c =
     let s = c .before .before in
@@ -41,10 +35,4 @@ returns-4 c =
 pub judge-chain-spec : {M : Type 1} → statement M
 judge-chain-spec =
     tie.close
-    (tie.spec
-    returns
-    coefficients-small-requires
-    coefficients-placed-requires
-    returns-2
-    returns-3
-    returns-4)
+    (tie.spec returns (λ c κs. search needs) (λ c κs. search needs) returns-2 returns-3 returns-4)

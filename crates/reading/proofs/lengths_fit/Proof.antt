@@ -9,14 +9,8 @@ use Rattle.reading.proofs.Lengths.{no-table, chain-differs, chain-fits}
 use Rattle.reading.proofs.lengths_fit.Statement.{statement}
 use Rattle.reading.proofs.lengths_fit.Tie as tie
 
-fits-requires : tie.Need-fits-requires
-fits-requires c κs = search needs
-
 returns : tie.Need-returns
 returns c = no-table _ _ _ (sym (c .before .fits2 .ensures) ∙ not-true _ (c .if1 .taken))
-
-room-requires : tie.Need-room-requires
-room-requires c κs = search needs
 
 -- past the first test the words are a table's
 fitting : (c : tie.Else1) → sized (c .before .before .before .args .t .now) ≡ true
@@ -35,4 +29,4 @@ returns-3 c =
     chain-fits _ (a .chain .now) _ (fitting (r .before)) (r .room .result) (r .room .ensures) (omega (arith, c .if2 .left))
 
 pub lengths-fit-spec : {M : Type 1} → statement M
-lengths-fit-spec = tie.close (tie.spec fits-requires returns room-requires returns-2 returns-3)
+lengths-fit-spec = tie.close (tie.spec (λ c κs. search needs) returns (λ c κs. search needs) returns-2 returns-3)

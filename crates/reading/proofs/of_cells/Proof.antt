@@ -11,14 +11,8 @@ use Rattle.reading.proofs.Answers.{first-dead, second-dead, dimensions-
 use Rattle.reading.proofs.of_cells.Statement.{statement}
 use Rattle.reading.proofs.of_cells.Tie as tie
 
-live-requires : tie.Need-live-requires
-live-requires c κs = search needs
-
 returns : tie.Need-returns
 returns c = first-dead _ _ _ (sym (c .before .live .ensures) ∙ not-true _ (c .if1 .taken))
-
-live-requires-2 : tie.Need-live-requires-2
-live-requires-2 c κs = search needs
 
 -- what the function was asked, seen from past the first test
 abbrev asked : tie.Else1 → tie.Start
@@ -40,15 +34,6 @@ dim-requires c κs = live-true _ _ (s-lives (c .before .before)) .inside
 dim-requires-2 : tie.Need-dim-requires-2
 dim-requires-2 c κs = live-true _ _ (u-lives (c .before)) .inside
 
-cast-if3 : tie.Need-cast-if3
-cast-if3 c = search needs
-
-cast-if3-2 : tie.Need-cast-if3-2
-cast-if3-2 c = search needs
-
-add-if3 : tie.Need-add-if3
-add-if3 c = search needs
-
 returns-3 : tie.Need-returns-3
 returns-3 c =
     let d = c .before in
@@ -68,16 +53,5 @@ returns-4 c =
 pub of-cells-spec : {M : Type 1} → statement M
 of-cells-spec =
     tie.close
-    (tie.spec
-    live-requires
-    returns
-    live-requires-2
-    returns-2
-    dim-requires
-    dim-requires-2
-    cast-if3
-    cast-if3-2
-    add-if3
-    returns-3
-    places-sum-requires
-    returns-4)
+    (tie.spec (λ c κs. search needs) returns (λ c κs. search needs) returns-2 dim-requires dim-requires-2 (λ c. search needs)
+    (λ c. search needs) (λ c. search needs) returns-3 places-sum-requires returns-4)

@@ -23,25 +23,10 @@ Inv-loop t s u places faces sum₀ j₀ sum j = (j ≤ places) × (toZ w64 sum �
 abbrev μ-loop : tie.MeasureT-loop
 μ-loop t s u places faces sum₀ j₀ sum j = places - j
 
-dim-requires : tie.Need-dim-requires Inv-loop μ-loop
-dim-requires c κs = search needs
-
-used-requires : tie.Need-used-requires Inv-loop μ-loop
-used-requires c κs = search needs
-
-faces-requires : tie.Need-faces-requires Inv-loop μ-loop
-faces-requires c κs = search needs
-
 loop-holds : tie.Need-loop-holds Inv-loop μ-loop
 loop-holds c =
     let a = c .before .before .before .before .args in
     (search needs, sym (sum-none (placeSign (a .t .now) (a .s) (a .u))))
-
-mul-if1 : tie.Need-mul-if1 Inv-loop μ-loop
-mul-if1 c = search needs
-
-array-read-if1 : tie.Need-array-read-if1 Inv-loop μ-loop
-array-read-if1 c = search needs
 
 -- what the function was asked, seen from its loop
 abbrev asked : tie.At-loop Inv-loop μ-loop → tie.Start Inv-loop μ-loop
@@ -73,12 +58,6 @@ sub-sum c =
     let a = asked l .args in
     down-fits (a .t .now) (a .s) (a .u) (toZ w64 (l .loop .sum)) (l .loop .j) _ (few i) (face-is i) (l .loop .inv .1)
 
-add-j : tie.Need-add-j Inv-loop μ-loop
-add-j c = search needs
-
-loop-less : tie.Need-loop-less Inv-loop μ-loop
-loop-less c = search needs
-
 loop-again : tie.Need-loop-again Inv-loop μ-loop
 loop-again c =
     let i = c .before in
@@ -102,18 +81,5 @@ returns c =
 pub places-sum-spec : {M : Type 1} → statement M
 places-sum-spec =
     tie.close
-    (tie.spec
-    Inv-loop
-    μ-loop
-    dim-requires
-    used-requires
-    faces-requires
-    loop-holds
-    mul-if1
-    array-read-if1
-    add-sum
-    sub-sum
-    add-j
-    loop-less
-    loop-again
-    returns)
+    (tie.spec Inv-loop μ-loop (λ c κs. search needs) (λ c κs. search needs) (λ c κs. search needs) loop-holds (λ c. search needs)
+    (λ c. search needs) add-sum sub-sum (λ c. search needs) (λ c. search needs) loop-again returns)

@@ -4,9 +4,6 @@ use Rattle.reading.proofs.Registers.{too-low, not-low}
 use Rattle.reading.proofs.small.Statement.{statement}
 use Rattle.reading.proofs.small.Tie as tie
 
-sub-if1 : tie.Need-sub-if1
-sub-if1 c = search needs
-
 returns : tie.Need-returns
 returns c = too-low (c .before .args .x) (c .before .fits .x) (c .if1 .taken)
 
@@ -14,4 +11,4 @@ returns-2 : tie.Need-returns-2
 returns-2 c = not-low (c .before .args .x) (c .before .fits .x) (c .if1 .left)
 
 pub small-spec : {M : Type 1} → statement M
-small-spec = tie.close (tie.spec sub-if1 returns returns-2)
+small-spec = tie.close (tie.spec (λ c. search needs) returns returns-2)

@@ -40,26 +40,8 @@ loop-holds c =
 largest-requires : tie.Need-largest-requires Inv-loop μ-loop
 largest-requires c κs = largest-asks (c .before .loop .inv .4)
 
-enum-told : tie.Need-enum-told Inv-loop μ-loop
-enum-told c = search needs
-
-same-length : tie.Need-same-length Inv-loop μ-loop
-same-length c = search needs
-
-same-length-2 : tie.Need-same-length-2 Inv-loop μ-loop
-same-length-2 c = search needs
-
-same-length-3 : tie.Need-same-length-3 Inv-loop μ-loop
-same-length-3 c = search needs
-
-same-length-4 : tie.Need-same-length-4 Inv-loop μ-loop
-same-length-4 c = search needs
-
 returns : tie.Need-returns Inv-loop μ-loop
 returns c = ends-empty (c .before .before .before .before .loop .inv .4) (subst (LargestIs _) (c .enum-told .given .1) (c .before .before .largest .ensures))
-
-enum-known-largest : tie.Need-enum-known-largest Inv-loop μ-loop
-enum-known-largest c = search needs
 
 mul-a : tie.Need-mul-a Inv-loop μ-loop
 mul-a c = let h = place-here (c .before) in search needs
@@ -83,18 +65,6 @@ keep-row-requires c κs =
     let found = c .before .before .before .before .before in
     (room-here found, found .before .before .before .before .loop .inv .4 .long)
 
-same-length-5 : tie.Need-same-length-5 Inv-loop μ-loop
-same-length-5 c = search needs
-
-same-length-6 : tie.Need-same-length-6 Inv-loop μ-loop
-same-length-6 c = search needs
-
-same-length-7 : tie.Need-same-length-7 Inv-loop μ-loop
-same-length-7 c = search needs
-
-same-length-8 : tie.Need-same-length-8 Inv-loop μ-loop
-same-length-8 c = search needs
-
 returns-2 : tie.Need-returns-2 Inv-loop μ-loop
 returns-2 c =
     let free = c .before .before .before .before .before in
@@ -114,9 +84,6 @@ add-kept-requires : tie.Need-add-kept-requires Inv-loop μ-loop
 add-kept-requires c κs =
     let found = c .before .before .before .before .before .before .before .before .before in
     (room-here found, found .before .before .before .before .loop .inv .4 .long)
-
-add-additions : tie.Need-add-additions Inv-loop μ-loop
-add-additions c = search needs
 
 loop-less : tie.Need-loop-less Inv-loop μ-loop
 loop-less c =
@@ -140,32 +107,7 @@ loop-again c =
 pub finish-row-spec : {M : Type 1} → statement M
 finish-row-spec =
     tie.close
-    (tie.spec
-    Inv-loop
-    μ-loop
-    loop-holds
-    largest-requires
-    enum-told
-    same-length
-    same-length-2
-    same-length-3
-    same-length-4
-    returns
-    enum-known-largest
-    mul-a
-    slice-read-a
-    cast-owner
-    mul-owner
-    slice-write-owner
-    keep-row-requires
-    same-length-5
-    same-length-6
-    same-length-7
-    same-length-8
-    returns-2
-    cast-add-row
-    add-row-requires
-    add-kept-requires
-    add-additions
-    loop-less
-    loop-again)
+    (tie.spec Inv-loop μ-loop loop-holds largest-requires (λ c. search needs) (λ c. search needs) (λ c. search needs) (λ c. search needs)
+    (λ c. search needs) returns (λ c. search needs) mul-a slice-read-a cast-owner mul-owner slice-write-owner keep-row-requires
+    (λ c. search needs) (λ c. search needs) (λ c. search needs) (λ c. search needs) returns-2 cast-add-row add-row-requires
+    add-kept-requires (λ c. search needs) loop-less loop-again)

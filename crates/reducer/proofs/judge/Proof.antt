@@ -6,14 +6,8 @@ use Rattle.reducer.proofs.Verdicts.{refuses-length, as-audited}
 use Rattle.reducer.proofs.judge.Statement.{statement}
 use Rattle.reducer.proofs.judge.Tie as tie
 
-lengths-fit-requires : tie.Need-lengths-fit-requires
-lengths-fit-requires c κs = search needs
-
 returns : tie.Need-returns
 returns c = refuses-length _ _ (sym (c .before .lengths-fit .ensures) ∙ not-true _ (c .if1 .taken))
-
-audit-requires : tie.Need-audit-requires
-audit-requires c κs = search needs
 
 returns-2 : tie.Need-returns-2
 returns-2 c =
@@ -21,4 +15,4 @@ returns-2 c =
     c .audit .ensures ∙ as-audited _ _ (sym (f .before .lengths-fit .ensures) ∙ not-false _ (f .if1 .left))
 
 pub judge-spec : {M : Type 1} → statement M
-judge-spec = tie.close (tie.spec lengths-fit-requires returns audit-requires returns-2)
+judge-spec = tie.close (tie.spec (λ c κs. search needs) returns (λ c κs. search needs) returns-2)

@@ -14,30 +14,15 @@ yes-here : (c : tie.After-enum-told) →
     reduceVerdict (a .args .t .now) (a .args .evidence .now) ≡ Accepted
 yes-here c = sym (c .before .before .judge .ensures) ∙ c .enum-told .given .1
 
-judge-requires : tie.Need-judge-requires
-judge-requires c κs = search needs
-
-enum-known-v : tie.Need-enum-known-v
-enum-known-v c = search needs
-
-enum-told : tie.Need-enum-told
-enum-told c = search needs
-
 fill-requires : tie.Need-fill-requires
 fill-requires c κs =
     let a = c .before .before .before .before .before .before .before in
     (valid-is-frame (a .args .t .now) (accepted-valid (a .args .t .now) (a .args .evidence .now) (yes-here (c .before))), accepted-long (a .args .t .now) (a .args .evidence .now) (yes-here (c .before)))
 
-same-length : tie.Need-same-length
-same-length c = search needs
-
 returns : tie.Need-returns
 returns c =
     let a = c .before .before .before .before .before .before .before in
     refused-ends (a .args .t .now) (a .args .evidence .now) _ _ (sym (c .before .before .before .judge .ensures) ∙ c .before .v .given .1) refl refl
-
-same-length-2 : tie.Need-same-length-2
-same-length-2 c = search needs
 
 returns-2 : tie.Need-returns-2
 returns-2 c =
@@ -47,12 +32,5 @@ returns-2 c =
 pub reduce-spec : {M : Type 1} → statement M
 reduce-spec =
     tie.close
-    (tie.spec
-    judge-requires
-    enum-known-v
-    enum-told
-    fill-requires
-    same-length
-    returns
-    same-length-2
+    (tie.spec (λ c κs. search needs) (λ c. search needs) (λ c. search needs) fill-requires (λ c. search needs) returns (λ c. search needs)
     returns-2)

@@ -21,15 +21,6 @@ start-row-requires c κs =
     let a = c .before .before .before .before .before in
     (omega (arith, a .pre .1 .1 .0, inside a), row-room (cells (a .args .t .now)) (a .args .evidence .now) _ _ (a .pre .1 .1 .0) (a .pre .1 .1 .1 .roomy .evidence) (inside a))
 
-slice-aggregate-add-faces : tie.Need-slice-aggregate-add-faces
-slice-aggregate-add-faces c = search needs
-
-add-faces-requires : tie.Need-add-faces-requires
-add-faces-requires c κs = search needs
-
-array-borrow-prefix-faces : tie.Need-array-borrow-prefix-faces
-array-borrow-prefix-faces c = search needs
-
 -- the row with its boundary, once the faces are added
 begun-here : (c : tie.After-add-faces) →
     let a = c .before .before .before .before .before .before .before .before .before .before in
@@ -49,15 +40,6 @@ finish-row-requires c κs =
     let s = c .before .before .before .before .before in
     (a .pre .0, (inside a, (a .pre .1 .1 .0, begun-here s)))
 
-same-length : tie.Need-same-length
-same-length c = search needs
-
-same-length-2 : tie.Need-same-length-2
-same-length-2 c = search needs
-
-same-length-3 : tie.Need-same-length-3
-same-length-3 c = search needs
-
 returns : tie.Need-returns
 returns c =
     let started = c .before .before .before .before .before .before .before .before .before .before .before .before .before .before .before .before .before in
@@ -68,14 +50,5 @@ returns c =
 pub reduce-row-spec : {M : Type 1} → statement M
 reduce-row-spec =
     tie.close
-    (tie.spec
-    start-row-requires
-    slice-aggregate-add-faces
-    add-faces-requires
-    array-borrow-prefix-faces
-    slice-aggregate-finish-row
-    finish-row-requires
-    same-length
-    same-length-2
-    same-length-3
-    returns)
+    (tie.spec start-row-requires (λ c. search needs) (λ c κs. search needs) (λ c. search needs) slice-aggregate-finish-row
+    finish-row-requires (λ c. search needs) (λ c. search needs) (λ c. search needs) returns)

@@ -33,25 +33,10 @@ free-here c =
     let a = c .before .before .before .before .before .before .before .before .before .before in
     not-true-false _ (λ e. omega (arith, c .before .dim .ensures, a .pre .0 .low _ e))
 
-size-requires : tie.Need-size-requires Inv-loop μ-loop
-size-requires c κs = search needs
-
-words-for-requires : tie.Need-words-for-requires Inv-loop μ-loop
-words-for-requires c κs = search needs
-
 loop-holds : tie.Need-loop-holds Inv-loop μ-loop
 loop-holds c =
     let a = c .before .before .before .before .before .before in
     (search needs, search needs, search needs, search needs, progress-first (cells (a .args .t .now)) (a .args .evidence .now) (a .args .kept .now) (a .args .owner .now) (a .pre .1 .0) (a .pre .1 .1))
-
-dim-requires : tie.Need-dim-requires Inv-loop μ-loop
-dim-requires c κs = search needs
-
-add-c : tie.Need-add-c Inv-loop μ-loop
-add-c c = search needs
-
-loop-less : tie.Need-loop-less Inv-loop μ-loop
-loop-less c = search needs
 
 loop-again : tie.Need-loop-again Inv-loop μ-loop
 loop-again c =
@@ -64,12 +49,6 @@ reduce-row-requires c κs =
     let a = d .before .before .before .before .before .before .before .before .before .before in
     (a .pre .0, (live-here d, (omega arith, progress-ready (d .before .before .before .loop .inv .4) (omega arith))))
 
-mul-additions : tie.Need-mul-additions Inv-loop μ-loop
-mul-additions c = search needs
-
-array-read-additions : tie.Need-array-read-additions Inv-loop μ-loop
-array-read-additions c = search needs
-
 add-additions : tie.Need-add-additions Inv-loop μ-loop
 add-additions c =
     let made = c .before .before .before .before .before .before .reduce-row in
@@ -77,15 +56,6 @@ add-additions c =
     let a = d .before .before .before .before .before .before .before .before .before .before in
     let fits = count-fits (d .before .before .before .loop .inv .4) (made .result) (omega (arith, a .pre .0 .room, d .before .before .loop-test .taken)) (made .ensures .few) in
     search fits
-
-array-write-additions : tie.Need-array-write-additions Inv-loop μ-loop
-array-write-additions c = search needs
-
-add-c-2 : tie.Need-add-c-2 Inv-loop μ-loop
-add-c-2 c = search needs
-
-loop-less-2 : tie.Need-loop-less-2 Inv-loop μ-loop
-loop-less-2 c = search needs
 
 loop-again-2 : tie.Need-loop-again-2 Inv-loop μ-loop
 loop-again-2 c =
@@ -99,40 +69,12 @@ loop-again-2 c =
       progress-live (i .4) _ (d .before .dim .ensures) (d .if1 .left) (live-here d) (made .ensures),
     )
 
-same-length : tie.Need-same-length Inv-loop μ-loop
-same-length c = search needs
-
-same-length-2 : tie.Need-same-length-2 Inv-loop μ-loop
-same-length-2 c = search needs
-
-same-length-3 : tie.Need-same-length-3 Inv-loop μ-loop
-same-length-3 c = search needs
-
 returns : tie.Need-returns Inv-loop μ-loop
 returns c = progress-ends (c .before .loop .inv .4) (omega arith)
 
 pub reduce-rows-spec : {M : Type 1} → statement M
 reduce-rows-spec =
     tie.close
-    (tie.spec
-    Inv-loop
-    μ-loop
-    size-requires
-    words-for-requires
-    loop-holds
-    dim-requires
-    add-c
-    loop-less
-    loop-again
-    reduce-row-requires
-    mul-additions
-    array-read-additions
-    add-additions
-    array-write-additions
-    add-c-2
-    loop-less-2
-    loop-again-2
-    same-length
-    same-length-2
-    same-length-3
-    returns)
+    (tie.spec Inv-loop μ-loop (λ c κs. search needs) (λ c κs. search needs) loop-holds (λ c κs. search needs) (λ c. search needs)
+    (λ c. search needs) loop-again reduce-row-requires (λ c. search needs) (λ c. search needs) add-additions (λ c. search needs)
+    (λ c. search needs) (λ c. search needs) loop-again-2 (λ c. search needs) (λ c. search needs) (λ c. search needs) returns)

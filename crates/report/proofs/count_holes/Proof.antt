@@ -4,12 +4,6 @@ use Rattle.report.proofs.Accepted.{cells-fit, holes-fit, answers-are-ho
 use Rattle.report.proofs.count_holes.Statement.{statement}
 use Rattle.report.proofs.count_holes.Tie as tie
 
-reduce-requires : tie.Need-reduce-requires
-reduce-requires c κs = search needs
-
-check-requires : tie.Need-check-requires
-check-requires c κs = search needs
-
 lines-requires : tie.Need-lines-requires
 lines-requires c κs =
     let k = c .before .before in
@@ -20,9 +14,6 @@ lines-requires c κs =
       cells-fit t ev _ _ _ (s .pre .0) (s .pre .1) (r .reduce .ensures) (k .check .ensures),
       holes-fit t ev _ _ _ (s .pre .0) (s .pre .1) (r .reduce .ensures) (k .check .ensures),
     )
-
-same-length : tie.Need-same-length
-same-length c = search needs
 
 returns : tie.Need-returns
 returns c =
@@ -36,9 +27,4 @@ returns c =
 pub count-holes-spec : {M : Type 1} → statement M
 count-holes-spec =
     tie.close
-    (tie.spec
-    reduce-requires
-    check-requires
-    lines-requires
-    same-length
-    returns)
+    (tie.spec (λ c κs. search needs) (λ c κs. search needs) lines-requires (λ c. search needs) returns)

@@ -20,33 +20,12 @@ abbrev μ-loop : tie.MeasureT-loop
 loop-holds : tie.Need-loop-holds Inv-loop μ-loop
 loop-holds c = (search needs, no-lines _ _ refl refl)
 
-cast-push-line : tie.Need-cast-push-line Inv-loop μ-loop
-cast-push-line c = search needs
-
-mul-push-line : tie.Need-mul-push-line Inv-loop μ-loop
-mul-push-line c = search needs
-
-array-read-push-line : tie.Need-array-read-push-line Inv-loop μ-loop
-array-read-push-line c = search needs
-
-mul-push-line-2 : tie.Need-mul-push-line-2 Inv-loop μ-loop
-mul-push-line-2 c = search needs
-
-array-read-push-line-2 : tie.Need-array-read-push-line-2 Inv-loop μ-loop
-array-read-push-line-2 c = search needs
-
 push-line-requires : tie.Need-push-line-requires Inv-loop μ-loop
 push-line-requires c κs =
     let i = c .before .loop in
     let a = c .before .before in
     let low : i .p ≤ top = omega (arith, c .loop-test .taken) in
     (omega (arith, i .inv .1 .short, c .loop-test .taken), omega (arith, low, a .pre .0 (i .p) low, a .pre .1 (i .p) low))
-
-add-p : tie.Need-add-p Inv-loop μ-loop
-add-p c = search needs
-
-loop-less : tie.Need-loop-less Inv-loop μ-loop
-loop-less c = search needs
 
 loop-again : tie.Need-loop-again Inv-loop μ-loop
 loop-again c =
@@ -61,17 +40,5 @@ returns c =
 pub lines-spec : {M : Type 1} → statement M
 lines-spec =
     tie.close
-    (tie.spec
-    Inv-loop
-    μ-loop
-    loop-holds
-    cast-push-line
-    mul-push-line
-    array-read-push-line
-    mul-push-line-2
-    array-read-push-line-2
-    push-line-requires
-    add-p
-    loop-less
-    loop-again
-    returns)
+    (tie.spec Inv-loop μ-loop loop-holds (λ c. search needs) (λ c. search needs) (λ c. search needs) (λ c. search needs)
+    (λ c. search needs) push-line-requires (λ c. search needs) (λ c. search needs) loop-again returns)

@@ -12,9 +12,6 @@ returns c = too-long (c .before .before .args .file .now) (omega (arith, c .if1 
 returns-2 : tie.Need-returns-2
 returns-2 c = too-short (c .before .before .before .args .file .now) (c .before .if1 .left) (c .if2 .taken)
 
-size-in-requires : tie.Need-size-in-requires
-size-in-requires c κs = search needs
-
 returns-3 : tie.Need-returns-3
 returns-3 c =
     let n = c .before in
@@ -38,10 +35,4 @@ returns-5 c =
 pub no-sketch-spec : {M : Type 1} → statement M
 no-sketch-spec =
     tie.close
-    (tie.spec
-    returns
-    returns-2
-    size-in-requires
-    returns-3
-    returns-4
-    returns-5)
+    (tie.spec returns returns-2 (λ c κs. search needs) returns-3 returns-4 returns-5)

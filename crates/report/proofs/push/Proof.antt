@@ -4,12 +4,6 @@ use borrow.Author.Needs.{needs}
 use Rattle.report.proofs.push.Statement.{statement}
 use Rattle.report.proofs.push.Tie as tie
 
-array-write-bytes : tie.Need-array-write-bytes
-array-write-bytes c = search needs
-
-add-t8 : tie.Need-add-t8
-add-t8 c = search needs
-
 returns : tie.Need-returns
 returns c =
     let a = c .before .args in
@@ -20,4 +14,4 @@ returns c =
     }
 
 pub push-spec : {M : Type 1} → statement M
-push-spec = tie.close (tie.spec array-write-bytes add-t8 returns)
+push-spec = tie.close (tie.spec (λ c. search needs) (λ c. search needs) returns)

@@ -4,24 +4,6 @@ use borrow.Author.Needs.{needs}
 use Rattle.report.proofs.push_line.Statement.{statement}
 use Rattle.report.proofs.push_line.Tie as tie
 
-push-number-requires : tie.Need-push-number-requires
-push-number-requires c κs = search needs
-
-push-requires : tie.Need-push-requires
-push-requires c κs = search needs
-
-push-number-requires-2 : tie.Need-push-number-requires-2
-push-number-requires-2 c κs = search needs
-
-push-requires-2 : tie.Need-push-requires-2
-push-requires-2 c κs = search needs
-
-push-number-requires-3 : tie.Need-push-number-requires-3
-push-number-requires-3 c κs = search needs
-
-push-requires-3 : tie.Need-push-requires-3
-push-requires-3 c κs = search needs
-
 returns : tie.Need-returns
 returns c =
     let e = c .before in
@@ -35,11 +17,5 @@ returns c =
 pub push-line-spec : {M : Type 1} → statement M
 push-line-spec =
     tie.close
-    (tie.spec
-    push-number-requires
-    push-requires
-    push-number-requires-2
-    push-requires-2
-    push-number-requires-3
-    push-requires-3
-    returns)
+    (tie.spec (λ c κs. search needs) (λ c κs. search needs) (λ c κs. search needs) (λ c κs. search needs) (λ c κs. search needs)
+    (λ c κs. search needs) returns)

@@ -4,31 +4,13 @@ use Rattle.report.proofs.Growing.{number-one, number-two, number-three}
 use Rattle.report.proofs.push_number.Statement.{statement}
 use Rattle.report.proofs.push_number.Tie as tie
 
-push-digit-requires : tie.Need-push-digit-requires
-push-digit-requires c κs = search needs
-
 returns : tie.Need-returns
 returns c = number-one _ (c .before .if1 .taken) (c .push-digit .ensures)
-
-push-digit-requires-2 : tie.Need-push-digit-requires-2
-push-digit-requires-2 c κs = search needs
-
-push-digit-requires-3 : tie.Need-push-digit-requires-3
-push-digit-requires-3 c κs = search needs
 
 returns-2 : tie.Need-returns-2
 returns-2 c =
     let i = c .before .before in
     number-two _ (i .before .if1 .left) (i .if2 .taken) (c .before .push-digit2 .ensures) (c .push-digit3 .ensures)
-
-push-digit-requires-4 : tie.Need-push-digit-requires-4
-push-digit-requires-4 c κs = search needs
-
-push-digit-requires-5 : tie.Need-push-digit-requires-5
-push-digit-requires-5 c κs = search needs
-
-push-digit-requires-6 : tie.Need-push-digit-requires-6
-push-digit-requires-6 c κs = search needs
 
 returns-3 : tie.Need-returns-3
 returns-3 c =
@@ -38,13 +20,5 @@ returns-3 c =
 pub push-number-spec : {M : Type 1} → statement M
 push-number-spec =
     tie.close
-    (tie.spec
-    push-digit-requires
-    returns
-    push-digit-requires-2
-    push-digit-requires-3
-    returns-2
-    push-digit-requires-4
-    push-digit-requires-5
-    push-digit-requires-6
-    returns-3)
+    (tie.spec (λ c κs. search needs) returns (λ c κs. search needs) (λ c κs. search needs) returns-2 (λ c κs. search needs)
+    (λ c κs. search needs) (λ c κs. search needs) returns-3)

@@ -11,12 +11,6 @@ use Rattle.report.proofs.Telling.{passes, front-long, words-fit, eviden
 use Rattle.report.proofs.report.Statement.{statement}
 use Rattle.report.proofs.report.Tie as tie
 
-no-sketch-requires : tie.Need-no-sketch-requires
-no-sketch-requires c κs = search needs
-
-refused-requires : tie.Need-refused-requires
-refused-requires c κs = search needs
-
 returns : tie.Need-returns
 returns c =
     let n = c .before .before in (
@@ -39,9 +33,6 @@ rows-few c = words-fit (c .before .size-in .result) (c .words-for .result) (few 
 
 mul-words : tie.Need-mul-words
 mul-words c = omega (arith, few c)
-
-words-for-requires : tie.Need-words-for-requires
-words-for-requires c κs = search needs
 
 mul-row-words : tie.Need-mul-row-words
 mul-row-words c = omega (arith, rows-few c)
@@ -75,17 +66,5 @@ returns-2 c =
 pub report-spec : {M : Type 1} → statement M
 report-spec =
     tie.close
-    (tie.spec
-    no-sketch-requires
-    refused-requires
-    returns
-    size-in-requires
-    mul-words
-    words-for-requires
-    mul-row-words
-    array-borrow-prefix-table
-    slice-aggregate-tell
-    array-borrow-prefix-evidence
-    slice-aggregate-tell-2
-    tell-requires
-    returns-2)
+    (tie.spec (λ c κs. search needs) (λ c κs. search needs) returns size-in-requires mul-words (λ c κs. search needs) mul-row-words
+    array-borrow-prefix-table slice-aggregate-tell array-borrow-prefix-evidence slice-aggregate-tell-2 tell-requires returns-2)

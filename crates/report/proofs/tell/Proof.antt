@@ -8,12 +8,6 @@ use Rattle.report.proofs.Telling.{tells-refusal, left-valid, left-words
 use Rattle.report.proofs.tell.Statement.{statement}
 use Rattle.report.proofs.tell.Tie as tie
 
-read-requires : tie.Need-read-requires
-read-requires c κs = search needs
-
-enum-told : tie.Need-enum-told
-enum-told c = search needs
-
 -- the file was accepted
 accepted-here : (e : tie.After-enum-told) → let r = e .before .before .before .before in let a = r .before .before .before .before .before .args in readVerdict (a .t .now) (a .file .now) ≡ Accepted
 accepted-here e = sym (e .before .before .before .before .read .ensures .answer) ∙ e .enum-told .given .1
@@ -29,18 +23,6 @@ count-holes-requires c κs =
       left-words t f _ (accepted-here e) (r .read .ensures .left) (length (s .args .evidence .now)) (s .pre),
     )
 
-enum-known-verdict : tie.Need-enum-known-verdict
-enum-known-verdict c = search needs
-
-refused-requires : tie.Need-refused-requires
-refused-requires c κs = search needs
-
-same-length : tie.Need-same-length
-same-length c = search needs
-
-same-length-2 : tie.Need-same-length-2
-same-length-2 c = search needs
-
 returns : tie.Need-returns
 returns c =
     let h = c .before .before in
@@ -50,9 +32,6 @@ returns c =
       tells-lines (s .args .t .now) (s .args .file .now) _ (accepted-here e) (r .read .ensures .left) _ (h .count-holes .ensures .0),
       h .count-holes .ensures .1,
     )
-
-same-length-3 : tie.Need-same-length-3
-same-length-3 c = search needs
 
 returns-2 : tie.Need-returns-2
 returns-2 c =
@@ -66,14 +45,5 @@ returns-2 c =
 pub tell-spec : {M : Type 1} → statement M
 tell-spec =
     tie.close
-    (tie.spec
-    read-requires
-    enum-told
-    count-holes-requires
-    enum-known-verdict
-    refused-requires
-    same-length
-    same-length-2
-    returns
-    same-length-3
-    returns-2)
+    (tie.spec (λ c κs. search needs) (λ c. search needs) count-holes-requires (λ c. search needs) (λ c κs. search needs)
+    (λ c. search needs) (λ c. search needs) returns (λ c. search needs) returns-2)

@@ -46,12 +46,6 @@ toggle-requires c κs =
     let l = c .before .before .before in
     omega (arith, fits-here c, l .loop .inv .1, l .before .before .before .before .pre .1 .1)
 
-add-j : tie.Need-add-j Inv-loop μ-loop
-add-j c = search needs
-
-loop-less : tie.Need-loop-less Inv-loop μ-loop
-loop-less c = search needs
-
 loop-again : tie.Need-loop-again Inv-loop μ-loop
 loop-again c =
     let d = c .before .before .before in
@@ -64,9 +58,6 @@ loop-again c =
           (c .before .before .toggle .ensures) (l .loop .inv .2),
     )
 
-same-length : tie.Need-same-length Inv-loop μ-loop
-same-length c = search needs
-
 returns : tie.Need-returns Inv-loop μ-loop
 returns c =
     let l = c .before in
@@ -77,15 +68,5 @@ returns c =
 pub add-faces-spec : {M : Type 1} → statement M
 add-faces-spec =
     tie.close
-    (tie.spec
-    Inv-loop
-    μ-loop
-    places-requires
-    loop-holds
-    face-requires
-    toggle-requires
-    add-j
-    loop-less
-    loop-again
-    same-length
-    returns)
+    (tie.spec Inv-loop μ-loop places-requires loop-holds face-requires toggle-requires (λ c. search needs) (λ c. search needs) loop-again
+    (λ c. search needs) returns)

@@ -22,9 +22,6 @@ abbrev μ-loop : tie.MeasureT-loop
 loop-holds : tie.Need-loop-holds Inv-loop μ-loop
 loop-holds c = (search needs, λ i. c .slice-known .given i .fits, all-left _ _ _ _)
 
-lowest-requires : tie.Need-lowest-requires Inv-loop μ-loop
-lowest-requires c κs = search needs
-
 shl-v : tie.Need-shl-v Inv-loop μ-loop
 shl-v c = c .lowest .ensures .inside
 
@@ -80,9 +77,6 @@ loop-again c =
           _ _ (inside-here d) refl (c .before .before .add-faces .ensures),
     )
 
-same-length : tie.Need-same-length Inv-loop μ-loop
-same-length c = search needs
-
 returns : tie.Need-returns Inv-loop μ-loop
 returns c =
     let a = c .before .before .before .before .args in
@@ -91,16 +85,5 @@ returns c =
 pub add-word-spec : {M : Type 1} → statement M
 add-word-spec =
     tie.close
-    (tie.spec
-    Inv-loop
-    μ-loop
-    loop-holds
-    lowest-requires
-    shl-v
-    mul-add-faces
-    add-add-faces
-    add-faces-requires
-    loop-less
-    loop-again
-    same-length
-    returns)
+    (tie.spec Inv-loop μ-loop loop-holds (λ c κs. search needs) shl-v mul-add-faces add-add-faces add-faces-requires loop-less loop-again
+    (λ c. search needs) returns)

@@ -11,12 +11,6 @@ use Rattle.rows.proofs.row.Tie as tie
 width-is : (c : tie.After-words-for) → c .words-for .result ≡ rowWidth (cells (c .before .before .before .before .args .t .now))
 width-is c = c .words-for .ensures ∙ ap wordsFor (c .before .size .ensures)
 
-size-requires : tie.Need-size-requires
-size-requires c κs = search needs
-
-words-for-requires : tie.Need-words-for-requires
-words-for-requires c κs = search needs
-
 row-requires : tie.Need-row-requires
 row-requires c κs =
     let a = c .before .before .before .before in
@@ -28,4 +22,4 @@ returns c =
     c .row .ensures ∙ row-at-width (cells (a .t .now)) (a .evidence .now) (a .c) _ (width-is (c .before))
 
 pub row-spec : {M : Type 1} → statement M
-row-spec = tie.close (tie.spec size-requires words-for-requires row-requires returns)
+row-spec = tie.close (tie.spec (λ c κs. search needs) (λ c κs. search needs) row-requires returns)

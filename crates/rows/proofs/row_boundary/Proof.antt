@@ -27,17 +27,8 @@ word-here : (c : tie.In-loop Inv-loop μ-loop) →
     getD (c .before .before .row .result .now) (c .before .loop .w) 0 ≡ getD (rowOf (cells (a .t .now)) (a .evidence .now) (a .c)) (c .before .loop .w) 0
 word-here c = ap (λ (x : List ℕ). getD x (c .before .loop .w) 0) (c .before .before .row .ensures)
 
-row-requires : tie.Need-row-requires Inv-loop μ-loop
-row-requires c κs = search needs
-
 loop-holds : tie.Need-loop-holds Inv-loop μ-loop
 loop-holds c = (search needs, refl, zeros-small fullWidth, no-words _ _ fullWidth)
-
-mul-add-word : tie.Need-mul-add-word Inv-loop μ-loop
-mul-add-word c = search needs
-
-shared-slice-read-add-word : tie.Need-shared-slice-read-add-word Inv-loop μ-loop
-shared-slice-read-add-word c = search needs
 
 slice-aggregate-add-word : tie.Need-slice-aggregate-add-word Inv-loop μ-loop
 slice-aggregate-add-word c = sym (c .before .before .before .loop .inv .1)
@@ -48,12 +39,6 @@ add-word-requires c κs =
     let a = i .before .before .before .before .before in
     let live = word-of-live-row (cells (a .args .t .now)) (a .args .evidence .now) (a .args .c) (i .before .loop .w) _ (a .pre .1 .1 .1) (word-here i) in
     (a .pre .0, (live, i .before .loop .inv .1))
-
-add-w : tie.Need-add-w Inv-loop μ-loop
-add-w c = search needs
-
-loop-less : tie.Need-loop-less Inv-loop μ-loop
-loop-less c = search needs
 
 loop-again : tie.Need-loop-again Inv-loop μ-loop
 loop-again c =
@@ -76,16 +61,5 @@ returns c =
 pub row-boundary-spec : {M : Type 1} → statement M
 row-boundary-spec =
     tie.close
-    (tie.spec
-    Inv-loop
-    μ-loop
-    row-requires
-    loop-holds
-    mul-add-word
-    shared-slice-read-add-word
-    slice-aggregate-add-word
-    add-word-requires
-    add-w
-    loop-less
-    loop-again
-    returns)
+    (tie.spec Inv-loop μ-loop (λ c κs. search needs) loop-holds (λ c. search needs) (λ c. search needs) slice-aggregate-add-word
+    add-word-requires (λ c. search needs) (λ c. search needs) loop-again returns)

@@ -18,37 +18,19 @@ Inv-loop t l sides₀ n c₀ sides c = (c ≤ n) × (length sides ≡ length sid
 abbrev μ-loop : tie.MeasureT-loop
 μ-loop t l sides₀ n c₀ sides c = n - c
 
-room-requires : tie.Need-room-requires Inv-loop μ-loop
-room-requires c κs = search needs
-
 loop-holds : tie.Need-loop-holds Inv-loop μ-loop
 loop-holds c = (omega arith, refl, c .before .before .before .pre .1)
-
-count-cell-requires : tie.Need-count-cell-requires Inv-loop μ-loop
-count-cell-requires c κs = search needs
-
-same-length : tie.Need-same-length Inv-loop μ-loop
-same-length c = search needs
 
 returns : tie.Need-returns Inv-loop μ-loop
 returns c =
     let k = c .before .before .before in
     (λ e. absurd (false≢true e), λ _. k .count-cell .ensures .1 (not-true (k .count-cell .result) (c .if1 .taken)))
 
-add-c : tie.Need-add-c Inv-loop μ-loop
-add-c c = search needs
-
-loop-less : tie.Need-loop-less Inv-loop μ-loop
-loop-less c = search needs
-
 loop-again : tie.Need-loop-again Inv-loop μ-loop
 loop-again c =
     let k = c .before .before .before in
     let i = k .before .before .before .loop .inv in
     (omega arith, k .count-cell .kept .1 .1 .1 .0 ∙ i .1, k .count-cell .ensures .0 (not-false (k .count-cell .result) (c .if1 .left)))
-
-same-length-2 : tie.Need-same-length-2 Inv-loop μ-loop
-same-length-2 c = search needs
 
 returns-2 : tie.Need-returns-2 Inv-loop μ-loop
 returns-2 c =
@@ -60,16 +42,5 @@ returns-2 c =
 pub count-sides-spec : {M : Type 1} → statement M
 count-sides-spec =
     tie.close
-    (tie.spec
-    Inv-loop
-    μ-loop
-    room-requires
-    loop-holds
-    count-cell-requires
-    same-length
-    returns
-    add-c
-    loop-less
-    loop-again
-    same-length-2
-    returns-2)
+    (tie.spec Inv-loop μ-loop (λ c κs. search needs) loop-holds (λ c κs. search needs) (λ c. search needs) returns (λ c. search needs)
+    (λ c. search needs) loop-again (λ c. search needs) returns-2)

@@ -18,23 +18,8 @@ Inv-loop t c l sides₀ used j₀ sides j = (j ≤ used) × ((length sides ≡ l
 abbrev μ-loop : tie.MeasureT-loop
 μ-loop t c l sides₀ used j₀ sides j = used - j
 
-dim-requires : tie.Need-dim-requires Inv-loop μ-loop
-dim-requires c κs = search needs
-
-used-requires : tie.Need-used-requires Inv-loop μ-loop
-used-requires c κs = search needs
-
 loop-holds : tie.Need-loop-holds Inv-loop μ-loop
 loop-holds c = (omega arith, (refl, counting-starts _ _ _ _ (c .before .before .before .before .pre .2)))
-
-face-requires : tie.Need-face-requires Inv-loop μ-loop
-face-requires c κs = search needs
-
-cast-u : tie.Need-cast-u Inv-loop μ-loop
-cast-u c = search needs
-
-mul-if1 : tie.Need-mul-if1 Inv-loop μ-loop
-mul-if1 c = search needs
 
 -- what the function was asked, seen from its loop
 abbrev asked : tie.At-loop Inv-loop μ-loop → tie.Start Inv-loop μ-loop
@@ -60,9 +45,6 @@ module _ (c : tie.After-face Inv-loop μ-loop) where
 slice-read-if1 : tie.Need-slice-read-if1 Inv-loop μ-loop
 slice-read-if1 c = omega (arith, lives (c .before) .inside, c .before .before .before .loop .inv .1 .1 .room)
 
-same-length : tie.Need-same-length Inv-loop μ-loop
-same-length c = search needs
-
 returns : tie.Need-returns Inv-loop μ-loop
 returns c =
     let f = c .before .before in
@@ -78,9 +60,6 @@ returns c =
           },
     )
 
-mul-sides : tie.Need-mul-sides Inv-loop μ-loop
-mul-sides c = search needs
-
 slice-read-sides : tie.Need-slice-read-sides Inv-loop μ-loop
 slice-read-sides c = omega (arith, lives (c .before .before .before) .inside, c .before .before .before .before .before .loop .inv .1 .1 .room)
 
@@ -90,12 +69,6 @@ add-sides c = omega (arith, c .before .if1 .left)
 slice-write-sides : tie.Need-slice-write-sides Inv-loop μ-loop
 slice-write-sides c = omega (arith, lives (c .before .before .before) .inside, c .before .before .before .before .before .loop .inv .1 .1 .room)
 
-add-j : tie.Need-add-j Inv-loop μ-loop
-add-j c = search needs
-
-loop-less : tie.Need-loop-less Inv-loop μ-loop
-loop-less c = search needs
-
 loop-again : tie.Need-loop-again Inv-loop μ-loop
 loop-again c =
     let f = c .before .before .before in
@@ -103,33 +76,12 @@ loop-again c =
     let i = l .loop .inv .1 in
     (omega arith, count-turn _ _ _ _ _ _ (i .1) (f .face .ensures) (lives f .inside) (asked l .args .sides .now) (i .0) (c .before .if1 .left))
 
-same-length-2 : tie.Need-same-length-2 Inv-loop μ-loop
-same-length-2 c = search needs
-
 returns-2 : tie.Need-returns-2 Inv-loop μ-loop
 returns-2 c = (λ _. counting-ends _ _ _ _ _ (c .before .loop .inv .1 .1) (omega (arith, c .before .loop .inv .0, c .loop-test .left, places (c .before .before))), λ e. absurd (false≢true (sym e)))
 
 pub count-wings-spec : {M : Type 1} → statement M
 count-wings-spec =
     tie.close
-    (tie.spec
-    Inv-loop
-    μ-loop
-    dim-requires
-    used-requires
-    loop-holds
-    face-requires
-    cast-u
-    mul-if1
-    slice-read-if1
-    same-length
-    returns
-    mul-sides
-    slice-read-sides
-    add-sides
-    slice-write-sides
-    add-j
-    loop-less
-    loop-again
-    same-length-2
-    returns-2)
+    (tie.spec Inv-loop μ-loop (λ c κs. search needs) (λ c κs. search needs) loop-holds (λ c κs. search needs) (λ c. search needs)
+    (λ c. search needs) slice-read-if1 (λ c. search needs) returns (λ c. search needs) slice-read-sides add-sides slice-write-sides
+    (λ c. search needs) (λ c. search needs) loop-again (λ c. search needs) returns-2)

@@ -8,14 +8,8 @@ use Rattle.sheet.proofs.Passing.{no-levels-no, crowded-no, sheet-by-cou
 use Rattle.sheet.proofs.is_sheet.Statement.{statement}
 use Rattle.sheet.proofs.is_sheet.Tie as tie
 
-levels-requires : tie.Need-levels-requires
-levels-requires c κs = search needs
-
 returns : tie.Need-returns
 returns c = let a = c .before in sym (no-levels-no (a .before .before .args .t .now) _ (a .levels .ensures) (c .if1 .taken))
-
-slice-aggregate-count-sides : tie.Need-slice-aggregate-count-sides
-slice-aggregate-count-sides c = search needs
 
 count-sides-requires : tie.Need-count-sides-requires
 count-sides-requires c κs =
@@ -28,9 +22,6 @@ returns-2 c =
     let e = k .before .before in
     let s = e .before .before .before in
     sym (crowded-no (s .args .t .now) _ (s .pre) (e .before .levels .ensures) (e .if1 .left) (k .count-sides .ensures .1 (not-true (k .count-sides .result) (c .if2 .taken))))
-
-slice-aggregate-all-pass : tie.Need-slice-aggregate-all-pass
-slice-aggregate-all-pass c = search needs
 
 all-pass-requires : tie.Need-all-pass-requires
 all-pass-requires c κs = let k = c .before .before .before in k .count-sides .ensures .0 (not-false (k .count-sides .result) (c .before .if2 .left))
@@ -47,12 +38,5 @@ returns-3 c =
 pub is-sheet-spec : {M : Type 1} → statement M
 is-sheet-spec =
     tie.close
-    (tie.spec
-    levels-requires
-    returns
-    slice-aggregate-count-sides
-    count-sides-requires
-    returns-2
-    slice-aggregate-all-pass
-    all-pass-requires
+    (tie.spec (λ c κs. search needs) returns (λ c. search needs) count-sides-requires returns-2 (λ c. search needs) all-pass-requires
     returns-3)

@@ -4,9 +4,6 @@ use borrow.Author.Tests.{lt-ltb, le-ltb}
 use Rattle.sheet.proofs.level.Statement.{statement}
 use Rattle.sheet.proofs.level.Tie as tie
 
-add-result : tie.Need-add-result
-add-result c = search needs
-
 returns : tie.Need-returns
 returns c = simp (le-ltb _ _ (c .if1 .taken))
 
@@ -14,4 +11,4 @@ returns-2 : tie.Need-returns-2
 returns-2 c = simp (lt-ltb _ _ (c .if1 .left))
 
 pub level-spec : {M : Type 1} → statement M
-level-spec = tie.close (tie.spec add-result returns returns-2)
+level-spec = tie.close (tie.spec (λ c. search needs) returns returns-2)

@@ -16,23 +16,8 @@ Inv-loop t n l₀ c₀ l c = (c ≤ n) × (l ≡ levelsBelow t c)
 abbrev μ-loop : tie.MeasureT-loop
 μ-loop t n l₀ c₀ l c = n - c
 
-room-requires : tie.Need-room-requires Inv-loop μ-loop
-room-requires c κs = search needs
-
 loop-holds : tie.Need-loop-holds Inv-loop μ-loop
 loop-holds c = (omega arith, sym (levels-zero _))
-
-dim-requires : tie.Need-dim-requires Inv-loop μ-loop
-dim-requires c κs = search needs
-
-level-requires : tie.Need-level-requires Inv-loop μ-loop
-level-requires c κs = search needs
-
-add-c : tie.Need-add-c Inv-loop μ-loop
-add-c c = search needs
-
-loop-less : tie.Need-loop-less Inv-loop μ-loop
-loop-less c = search needs
 
 loop-again : tie.Need-loop-again Inv-loop μ-loop
 loop-again c =
@@ -55,14 +40,5 @@ returns c =
 pub levels-spec : {M : Type 1} → statement M
 levels-spec =
     tie.close
-    (tie.spec
-    Inv-loop
-    μ-loop
-    room-requires
-    loop-holds
-    dim-requires
-    level-requires
-    add-c
-    loop-less
-    loop-again
-    returns)
+    (tie.spec Inv-loop μ-loop (λ c κs. search needs) loop-holds (λ c κs. search needs) (λ c κs. search needs) (λ c. search needs)
+    (λ c. search needs) loop-again returns)

@@ -17,23 +17,8 @@ Inv-loop t c l sides₀ used j₀ sides j = (j ≤ used) × ((length sides ≡ l
 abbrev μ-loop : tie.MeasureT-loop
 μ-loop t c l sides₀ used j₀ sides j = used - j
 
-dim-requires : tie.Need-dim-requires Inv-loop μ-loop
-dim-requires c κs = search needs
-
-used-requires : tie.Need-used-requires Inv-loop μ-loop
-used-requires c κs = search needs
-
 loop-holds : tie.Need-loop-holds Inv-loop μ-loop
 loop-holds c = (omega arith, (refl, counting-starts _ _ _ _ (c .before .before .before .before .pre .2)))
-
-face-requires : tie.Need-face-requires Inv-loop μ-loop
-face-requires c κs = search needs
-
-cast-f : tie.Need-cast-f Inv-loop μ-loop
-cast-f c = search needs
-
-mul-sides : tie.Need-mul-sides Inv-loop μ-loop
-mul-sides c = search needs
 
 -- what the function was asked, seen from its loop
 abbrev asked : tie.At-loop Inv-loop μ-loop → tie.Start Inv-loop μ-loop
@@ -59,12 +44,6 @@ module _ (c : tie.After-face Inv-loop μ-loop) where
 slice-write-sides : tie.Need-slice-write-sides Inv-loop μ-loop
 slice-write-sides c = omega (arith, lives c .inside, c .before .before .loop .inv .1 .1 .room)
 
-add-j : tie.Need-add-j Inv-loop μ-loop
-add-j c = search needs
-
-loop-less : tie.Need-loop-less Inv-loop μ-loop
-loop-less c = search needs
-
 loop-again : tie.Need-loop-again Inv-loop μ-loop
 loop-again c =
     let l = c .before .before in
@@ -72,27 +51,11 @@ loop-again c =
     let s = asked l in
     (omega arith, mark-turn _ _ _ _ _ _ (i .1) (c .face .ensures) (lives c .inside) (s .args .sides .now) (i .0) (λ e. s .pre .3 (omega (arith, below c))))
 
-same-length : tie.Need-same-length Inv-loop μ-loop
-same-length c = search needs
-
 returns : tie.Need-returns Inv-loop μ-loop
 returns c = counting-ends _ _ _ _ _ (c .before .loop .inv .1 .1) (omega (arith, c .before .loop .inv .0, c .loop-test .left, places (c .before .before)))
 
 pub mark-faces-spec : {M : Type 1} → statement M
 mark-faces-spec =
     tie.close
-    (tie.spec
-    Inv-loop
-    μ-loop
-    dim-requires
-    used-requires
-    loop-holds
-    face-requires
-    cast-f
-    mul-sides
-    slice-write-sides
-    add-j
-    loop-less
-    loop-again
-    same-length
-    returns)
+    (tie.spec Inv-loop μ-loop (λ c κs. search needs) (λ c κs. search needs) loop-holds (λ c κs. search needs) (λ c. search needs)
+    (λ c. search needs) slice-write-sides (λ c. search needs) (λ c. search needs) loop-again (λ c. search needs) returns)

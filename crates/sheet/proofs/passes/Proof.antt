@@ -8,9 +8,6 @@ use Rattle.sheet.proofs.passes.Tie as tie
 returns : tie.Need-returns
 returns c = simp (lt-ltb _ _ (c .if1 .taken))
 
-add-if2 : tie.Need-add-if2
-add-if2 c = search needs
-
 returns-2 : tie.Need-returns-2
 returns-2 c = simp (le-ltb _ _ (c .before .if1 .left), eq-eqb _ _ (c .if2 .taken))
 
@@ -18,4 +15,4 @@ returns-3 : tie.Need-returns-3
 returns-3 c = simp (le-ltb _ _ (c .before .if1 .left), ne-eqb _ _ (c .if2 .left))
 
 pub passes-spec : {M : Type 1} → statement M
-passes-spec = tie.close (tie.spec returns add-if2 returns-2 returns-3)
+passes-spec = tie.close (tie.spec returns (λ c. search needs) returns-2 returns-3)

@@ -10,12 +10,6 @@ use Rattle.sheet.proofs.Answers.{accepted-answer, refused-answer}
 use Rattle.sheet.proofs.sheet.Statement.{statement}
 use Rattle.sheet.proofs.sheet.Tie as tie
 
-audit-requires : tie.Need-audit-requires
-audit-requires c κs = search needs
-
-enum-told : tie.Need-enum-told
-enum-told c = search needs
-
 -- what the call was asked, seen from after the audit
 abbrev asked : tie.After-audit → tie.Start
 asked a = a .before .before
@@ -38,9 +32,6 @@ answered c b e =
 returns : tie.Need-returns
 returns c = answered (c .before) true (c .if1 .taken)
 
-enum-known-found : tie.Need-enum-known-found
-enum-known-found c = search needs
-
 returns-2 : tie.Need-returns-2
 returns-2 c = answered (c .before) false (c .if1 .left)
 
@@ -52,4 +43,4 @@ returns-3 c =
 pub sheet-spec : {M : Type 1} → statement M
 sheet-spec =
     tie.close
-    (tie.spec audit-requires enum-told is-sheet-requires returns enum-known-found returns-2 returns-3)
+    (tie.spec (λ c κs. search needs) (λ c. search needs) is-sheet-requires returns (λ c. search needs) returns-2 returns-3)

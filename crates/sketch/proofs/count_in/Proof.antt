@@ -5,18 +5,9 @@ use Rattle.sketch.specs.Read.{countIn}
 use Rattle.sketch.proofs.count_in.Statement.{statement}
 use Rattle.sketch.proofs.count_in.Tie as tie
 
-mul-two-at : tie.Need-mul-two-at
-mul-two-at c = search needs
-
-add-two-at : tie.Need-add-two-at
-add-two-at c = search needs
-
-two-at-requires : tie.Need-two-at-requires
-two-at-requires c κs = search needs
-
 returns : tie.Need-returns
 unfolding countIn
 returns c = c .two-at .ensures
 
 pub count-in-spec : {M : Type 1} → statement M
-count-in-spec = tie.close (tie.spec mul-two-at add-two-at two-at-requires returns)
+count-in-spec = tie.close (tie.spec (λ c. search needs) (λ c. search needs) (λ c κs. search needs) returns)

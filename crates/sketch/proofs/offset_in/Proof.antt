@@ -15,47 +15,11 @@ halves : (f : List ℕ) (i a b : ℕ) → a ≡ twoAt f i → b ≡ twoAt f (i +
 unfolding twoAt fourAt
 halves f i a b x y = omega (arith, ap (λ k. getD f k 0) (add-assoc i 2 1))
 
-mul-i : tie.Need-mul-i
-mul-i c = search needs
-
-add-i : tie.Need-add-i
-add-i c = search needs
-
-two-at-requires : tie.Need-two-at-requires
-two-at-requires c κs = search needs
-
-cast-result : tie.Need-cast-result
-cast-result c = search needs
-
-add-two-at : tie.Need-add-two-at
-add-two-at c = search needs
-
-two-at-requires-2 : tie.Need-two-at-requires-2
-two-at-requires-2 c κs = search needs
-
-cast-result-2 : tie.Need-cast-result-2
-cast-result-2 c = search needs
-
-mul-result : tie.Need-mul-result
-mul-result c = search needs
-
-add-result : tie.Need-add-result
-add-result c = search needs
-
 returns : tie.Need-returns
 returns c = halves _ _ _ _ (c .before .two-at .ensures) (c .two-at2 .ensures)
 
 pub offset-in-spec : {M : Type 1} → statement M
 offset-in-spec =
     tie.close
-    (tie.spec
-    mul-i
-    add-i
-    two-at-requires
-    cast-result
-    add-two-at
-    two-at-requires-2
-    cast-result-2
-    mul-result
-    add-result
-    returns)
+    (tie.spec (λ c. search needs) (λ c. search needs) (λ c κs. search needs) (λ c. search needs) (λ c. search needs) (λ c κs. search needs)
+    (λ c. search needs) (λ c. search needs) (λ c. search needs) returns)

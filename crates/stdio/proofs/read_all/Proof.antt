@@ -15,15 +15,6 @@ Inv-loop buf₀ done₀ buf done = (done ≤ length buf) × (length buf ≡ leng
 abbrev μ-loop : tie.MeasureT-loop
 μ-loop buf₀ done₀ buf done = length buf₀ - done
 
-loop-holds : tie.Need-loop-holds Inv-loop μ-loop
-loop-holds c = search needs
-
-read-on-requires : tie.Need-read-on-requires Inv-loop μ-loop
-read-on-requires c κs = search needs
-
-enum-known-next : tie.Need-enum-known-next Inv-loop μ-loop
-enum-known-next c = search needs
-
 -- what a turn has added lies inside the buffer
 added : (c : tie.After-known-told Inv-loop μ-loop) →
     let turn = c .before .before .before .before .before in
@@ -47,9 +38,6 @@ loop-again c =
     let same = turn .read-on .ensures .sized in
     (omega (arith, added c .1, same), same ∙ turn .before .before .before .loop .inv .1)
 
-enum-known-next-2 : tie.Need-enum-known-next-2 Inv-loop μ-loop
-enum-known-next-2 c = search needs
-
 same-length : tie.Need-same-length Inv-loop μ-loop
 same-length c =
     let turn = c .before .before .before .before .before in
@@ -70,17 +58,5 @@ returns-2 c = has-read _ _ _ (c .before .loop .inv .0) (c .before .loop .inv .1)
 pub read-all-spec : {M : Type 1} → statement M
 read-all-spec =
     tie.close
-    (tie.spec
-    Inv-loop
-    μ-loop
-    loop-holds
-    read-on-requires
-    enum-known-next
-    add-done
-    loop-less
-    loop-again
-    enum-known-next-2
-    same-length
-    returns
-    same-length-2
-    returns-2)
+    (tie.spec Inv-loop μ-loop (λ c. search needs) (λ c κs. search needs) (λ c. search needs) add-done loop-less loop-again
+    (λ c. search needs) same-length returns same-length-2 returns-2)

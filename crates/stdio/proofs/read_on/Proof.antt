@@ -4,21 +4,6 @@ use Rattle.stdio.proofs.Reading.{read-further}
 use Rattle.stdio.proofs.read_on.Statement.{statement}
 use Rattle.stdio.proofs.read_on.Tie as tie
 
-sub-read : tie.Need-sub-read
-sub-read c = search needs
-
-part-read-start : tie.Need-part-read-start
-part-read-start c = search needs
-
-part-read-end : tie.Need-part-read-end
-part-read-end c = search needs
-
-read-requires : tie.Need-read-requires
-read-requires c κs = search needs
-
-meaning-requires : tie.Need-meaning-requires
-meaning-requires c κs = search needs
-
 same-length : tie.Need-same-length
 same-length c = search needs
 
@@ -32,11 +17,4 @@ returns c =
 pub read-on-spec : {M : Type 1} → statement M
 read-on-spec =
     tie.close
-    (tie.spec
-    sub-read
-    part-read-start
-    part-read-end
-    read-requires
-    meaning-requires
-    same-length
-    returns)
+    (tie.spec (λ c. search needs) (λ c. search needs) (λ c. search needs) (λ c κs. search needs) (λ c κs. search needs) same-length returns)

@@ -5,18 +5,6 @@ use Rattle.weld.proofs.Passing.{becomes-at, pair-ready, levels-weld}
 use Rattle.weld.proofs.classes.Statement.{statement}
 use Rattle.weld.proofs.classes.Tie as tie
 
-room-requires : tie.Need-room-requires
-room-requires c κs = search needs
-
-dim-requires : tie.Need-dim-requires
-dim-requires c κs = search needs
-
-own-requires : tie.Need-own-requires
-own-requires c κs = search needs
-
-join-requires : tie.Need-join-requires
-join-requires c κs = search needs
-
 -- how the table was measured, and what was asked
 abbrev measured : tie.After-join → tie.After-dim
 measured c = c .before .before .before .before .before .before
@@ -33,9 +21,6 @@ join-levels-requires c κs =
     let paired = becomes-at _ _ _ _ _ n (j .join .ensures) in
     (pair-ready _ _ _ _ _ _ (p .0) started paired, omega (arith, measured j .dim .ensures, p .0 .first .low))
 
-same-length : tie.Need-same-length
-same-length c = search needs
-
 returns : tie.Need-returns
 returns c =
     let l = c .before .before in
@@ -48,11 +33,5 @@ returns c =
 pub classes-spec : {M : Type 1} → statement M
 classes-spec =
     tie.close
-    (tie.spec
-    room-requires
-    dim-requires
-    own-requires
-    join-requires
-    join-levels-requires
-    same-length
-    returns)
+    (tie.spec (λ c κs. search needs) (λ c κs. search needs) (λ c κs. search needs) (λ c κs. search needs) join-levels-requires
+    (λ c. search needs) returns)

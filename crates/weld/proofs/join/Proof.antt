@@ -6,24 +6,6 @@ use Rattle.weld.proofs.Sending.{join-same, join-sent}
 use Rattle.weld.proofs.join.Statement.{statement}
 use Rattle.weld.proofs.join.Tie as tie
 
-mul-i : tie.Need-mul-i
-mul-i c = search needs
-
-slice-read-i : tie.Need-slice-read-i
-slice-read-i c = search needs
-
-mul-j : tie.Need-mul-j
-mul-j c = search needs
-
-slice-read-j : tie.Need-slice-read-j
-slice-read-j c = search needs
-
-send-requires : tie.Need-send-requires
-send-requires c κs = search needs
-
-same-length : tie.Need-same-length
-same-length c = search needs
-
 returns : tie.Need-returns
 returns c =
     let p = c .before .before .before .before .before .before .before .before in
@@ -31,12 +13,6 @@ returns c =
     let s = c .before .before .send .ensures in
     let t = c .before .before .before .before .if1 .taken in
     join-sent (a .n) (a .k .now) (p .pre .0) (a .x) (a .y) (p .pre .1) (p .pre .2) _ _ _ s (omega (arith, t)) (omega (arith, t))
-
-send-requires-2 : tie.Need-send-requires-2
-send-requires-2 c κs = search needs
-
-same-length-2 : tie.Need-same-length-2
-same-length-2 c = search needs
 
 returns-2 : tie.Need-returns-2
 returns-2 c =
@@ -55,15 +31,5 @@ returns-3 c =
 pub join-spec : {M : Type 1} → statement M
 join-spec =
     tie.close
-    (tie.spec
-    mul-i
-    slice-read-i
-    mul-j
-    slice-read-j
-    send-requires
-    same-length
-    returns
-    send-requires-2
-    same-length-2
-    returns-2
-    returns-3)
+    (tie.spec (λ c. search needs) (λ c. search needs) (λ c. search needs) (λ c. search needs) (λ c κs. search needs) (λ c. search needs)
+    returns (λ c κs. search needs) (λ c. search needs) returns-2 returns-3)

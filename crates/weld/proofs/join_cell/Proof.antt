@@ -7,22 +7,10 @@ use Rattle.weld.proofs.Passing.{cell-passed, cell-still, cell-joined, i
 use Rattle.weld.proofs.join_cell.Statement.{statement}
 use Rattle.weld.proofs.join_cell.Tie as tie
 
-dim-requires : tie.Need-dim-requires
-dim-requires c κs = search needs
-
 returns : tie.Need-returns
 returns c =
     let s = c .before .before .before .before in
     cell-passed _ _ _ _ _ (s .pre .0 .maps) (λ e. c .if1 .taken (c .before .dim .ensures ∙ e))
-
-mul-wide : tie.Need-mul-wide
-mul-wide c = search needs
-
-slice-read-wide : tie.Need-slice-read-wide
-slice-read-wide c = search needs
-
-wide-requires : tie.Need-wide-requires
-wide-requires c κs = search needs
 
 -- past the first test the record is a q-cell
 abbrev asked : tie.After-wide → tie.Start
@@ -37,9 +25,6 @@ join-places-requires c κs =
     let s = asked w in
     let i = image-there _ _ _ (s .pre .1) (s .pre .2) (q-cell w) _ _ (w .wide .ensures) (s .pre .0) in
     (s .pre .0, i .0, i .1, i .2)
-
-same-length : tie.Need-same-length
-same-length c = search needs
 
 returns-2 : tie.Need-returns-2
 returns-2 c =
@@ -57,13 +42,5 @@ returns-3 c =
 pub join-cell-spec : {M : Type 1} → statement M
 join-cell-spec =
     tie.close
-    (tie.spec
-    dim-requires
-    returns
-    mul-wide
-    slice-read-wide
-    wide-requires
-    join-places-requires
-    same-length
-    returns-2
-    returns-3)
+    (tie.spec (λ c κs. search needs) returns (λ c. search needs) (λ c. search needs) (λ c κs. search needs) join-places-requires
+    (λ c. search needs) returns-2 returns-3)

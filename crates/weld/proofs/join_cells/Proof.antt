@@ -19,9 +19,6 @@ Inv-loop t k₀ q n c₀ k c =
 abbrev μ-loop : tie.MeasureT-loop
 μ-loop t k₀ q n c₀ k c = n - c
 
-room-requires : tie.Need-room-requires Inv-loop μ-loop
-room-requires c κs = search needs
-
 loop-holds : tie.Need-loop-holds Inv-loop μ-loop
 loop-holds c = (omega arith, refl, cells-none _ _ _ (c .before .before .before .pre .0 .maps))
 
@@ -31,20 +28,11 @@ join-cell-requires c κs =
     let s = c .before .before .before .before .before .before in
     (cells-ready _ _ (l .c) _ (l .k) (s .pre .0) (l .inv .2), s .pre .1, search needs)
 
-add-c : tie.Need-add-c Inv-loop μ-loop
-add-c c = search needs
-
-loop-less : tie.Need-loop-less Inv-loop μ-loop
-loop-less c = search needs
-
 loop-again : tie.Need-loop-again Inv-loop μ-loop
 loop-again c =
     let l = c .before .before .before .before .before .loop in
     let j = c .before .before .join-cell in
     (search needs, j .kept .1 .0 ∙ l .inv .1, cells-more _ _ (l .c) _ (l .k) _ (l .inv .2) (j .ensures))
-
-same-length : tie.Need-same-length Inv-loop μ-loop
-same-length c = search needs
 
 returns : tie.Need-returns Inv-loop μ-loop
 returns c =
@@ -54,14 +42,5 @@ returns c =
 pub join-cells-spec : {M : Type 1} → statement M
 join-cells-spec =
     tie.close
-    (tie.spec
-    Inv-loop
-    μ-loop
-    room-requires
-    loop-holds
-    join-cell-requires
-    add-c
-    loop-less
-    loop-again
-    same-length
-    returns)
+    (tie.spec Inv-loop μ-loop (λ c κs. search needs) loop-holds join-cell-requires (λ c. search needs) (λ c. search needs) loop-again
+    (λ c. search needs) returns)

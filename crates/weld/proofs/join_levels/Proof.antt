@@ -26,12 +26,6 @@ loop-holds c = let p = c .before .before .pre in (p .1, refl, p .0, refl)
 join-cells-requires : tie.Need-join-cells-requires Inv-loop μ-loop
 join-cells-requires c κs = (c .before .before .loop .inv .2, search needs)
 
-sub-q : tie.Need-sub-q Inv-loop μ-loop
-sub-q c = search needs
-
-loop-less : tie.Need-loop-less Inv-loop μ-loop
-loop-less c = search needs
-
 loop-again : tie.Need-loop-again Inv-loop μ-loop
 loop-again c =
     let l = c .before .before .before .before .before .loop in
@@ -43,9 +37,6 @@ loop-again c =
       levels-more t (l .q) (l .k) _ (search needs) (k .ensures) ∙ l .inv .3,
     )
 
-same-length : tie.Need-same-length Inv-loop μ-loop
-same-length c = search needs
-
 returns : tie.Need-returns Inv-loop μ-loop
 returns c =
     let l = c .before .loop in
@@ -55,13 +46,4 @@ returns c =
 pub join-levels-spec : {M : Type 1} → statement M
 join-levels-spec =
     tie.close
-    (tie.spec
-    Inv-loop
-    μ-loop
-    loop-holds
-    join-cells-requires
-    sub-q
-    loop-less
-    loop-again
-    same-length
-    returns)
+    (tie.spec Inv-loop μ-loop loop-holds join-cells-requires (λ c. search needs) (λ c. search needs) loop-again (λ c. search needs) returns)

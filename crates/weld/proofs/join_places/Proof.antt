@@ -19,33 +19,12 @@ Inv-loop t k₀ c d n used j₀ k j = (j ≤ used) × (length k ≡ length k₀)
 abbrev μ-loop : tie.MeasureT-loop
 μ-loop t k₀ c d n used j₀ k j = used - j
 
-room-requires : tie.Need-room-requires Inv-loop μ-loop
-room-requires c κs = search needs
-
-dim-requires : tie.Need-dim-requires Inv-loop μ-loop
-dim-requires c κs = search needs
-
-used-requires : tie.Need-used-requires Inv-loop μ-loop
-used-requires c κs = search needs
-
 loop-holds : tie.Need-loop-holds Inv-loop μ-loop
 loop-holds c =
     let s = c .before .before .before .before .before in
     let ready = s .pre .0 in
     let n = sym (c .before .before .room .ensures) in
     (omega arith, refl, places-none _ _ _ _ _ (subst (λ m. Maps m (s .args .k .now)) n (ready .maps)))
-
-face-requires : tie.Need-face-requires Inv-loop μ-loop
-face-requires c κs = search needs
-
-face-requires-2 : tie.Need-face-requires-2 Inv-loop μ-loop
-face-requires-2 c κs = search needs
-
-cast-join : tie.Need-cast-join Inv-loop μ-loop
-cast-join c = search needs
-
-cast-join-2 : tie.Need-cast-join-2 Inv-loop μ-loop
-cast-join-2 c = search needs
 
 -- what was asked, and that the places are those of the cell: one that is read is used
 abbrev asked : tie.After-used Inv-loop μ-loop → tie.Start Inv-loop μ-loop
@@ -65,12 +44,6 @@ join-requires c κs =
     let other = other-inside _ _ _ v (p .1) (p .2) (p .3) _ _ (c .before .face2 .ensures) (omega (arith, places u)) in
     (i .before .loop .inv .2 .maps, omega (arith, n, inside), omega (arith, n, other))
 
-add-j : tie.Need-add-j Inv-loop μ-loop
-add-j c = search needs
-
-loop-less : tie.Need-loop-less Inv-loop μ-loop
-loop-less c = search needs
-
 loop-again : tie.Need-loop-again Inv-loop μ-loop
 loop-again c =
     let j = c .before .before in
@@ -80,9 +53,6 @@ loop-again c =
       j .join .kept .0 ∙ l .inv .1,
       places-more _ _ _ _ (l .j) _ _ _ (l .k) _ (l .inv .2) (f .before .face .ensures) (f .face2 .ensures) (j .join .ensures),
     )
-
-same-length : tie.Need-same-length Inv-loop μ-loop
-same-length c = search needs
 
 returns : tie.Need-returns Inv-loop μ-loop
 returns c =
@@ -94,20 +64,6 @@ returns c =
 pub join-places-spec : {M : Type 1} → statement M
 join-places-spec =
     tie.close
-    (tie.spec
-    Inv-loop
-    μ-loop
-    room-requires
-    dim-requires
-    used-requires
-    loop-holds
-    face-requires
-    face-requires-2
-    cast-join
-    cast-join-2
-    join-requires
-    add-j
-    loop-less
-    loop-again
-    same-length
-    returns)
+    (tie.spec Inv-loop μ-loop (λ c κs. search needs) (λ c κs. search needs) (λ c κs. search needs) loop-holds (λ c κs. search needs)
+    (λ c κs. search needs) (λ c. search needs) (λ c. search needs) join-requires (λ c. search needs) (λ c. search needs) loop-again
+    (λ c. search needs) returns)

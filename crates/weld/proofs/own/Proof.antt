@@ -19,28 +19,10 @@ abbrev μ-loop : tie.MeasureT-loop
 loop-holds : tie.Need-loop-holds Inv-loop μ-loop
 loop-holds c = (omega arith, refl, below-none _)
 
-cast-k : tie.Need-cast-k Inv-loop μ-loop
-cast-k c = search needs
-
-mul-k : tie.Need-mul-k Inv-loop μ-loop
-mul-k c = search needs
-
-slice-write-k : tie.Need-slice-write-k Inv-loop μ-loop
-slice-write-k c = search needs
-
-add-c : tie.Need-add-c Inv-loop μ-loop
-add-c c = search needs
-
-loop-less : tie.Need-loop-less Inv-loop μ-loop
-loop-less c = search needs
-
 loop-again : tie.Need-loop-again Inv-loop μ-loop
 loop-again c =
     let l = c .before .loop in
     (search needs, simp length-set (search needs), words-more (λ d. d) (l .k) (l .c) _ (search needs) refl (l .inv .2))
-
-same-length : tie.Need-same-length Inv-loop μ-loop
-same-length c = search needs
 
 returns : tie.Need-returns Inv-loop μ-loop
 returns c =
@@ -50,15 +32,5 @@ returns c =
 pub own-spec : {M : Type 1} → statement M
 own-spec =
     tie.close
-    (tie.spec
-    Inv-loop
-    μ-loop
-    loop-holds
-    cast-k
-    mul-k
-    slice-write-k
-    add-c
-    loop-less
-    loop-again
-    same-length
-    returns)
+    (tie.spec Inv-loop μ-loop loop-holds (λ c. search needs) (λ c. search needs) (λ c. search needs) (λ c. search needs)
+    (λ c. search needs) loop-again (λ c. search needs) returns)

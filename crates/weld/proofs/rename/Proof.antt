@@ -11,9 +11,6 @@ use Rattle.weld.proofs.Writing.{none-used}
 use Rattle.weld.proofs.rename.Statement.{statement}
 use Rattle.weld.proofs.rename.Tie as tie
 
-dim-requires : tie.Need-dim-requires
-dim-requires c κs = search needs
-
 -- where the record that was read has dimension p, the arm of p is right
 arm :
     (c : tie.After-dim) (p : ℕ) → c .dim .result ≡ p →
@@ -49,26 +46,7 @@ rename-as-requires-7 c κs =
 pub rename-spec : {M : Type 1} → statement M
 rename-spec =
     tie.close
-    (tie.spec
-    dim-requires
-    rename-as-requires
-    rename-as-requires-2
-    rename-as-requires-3
-    rename-as-requires-4
-    rename-as-requires-5
-    rename-as-requires-6
-    rename-as-requires-7
-    (λ c. search needs)
-    (λ c. search needs)
-    (λ c. search needs)
-    (λ c. search needs)
-    (λ c. search needs)
-    (λ c. search needs)
-    (λ c. search needs)
-    (λ c. search needs)
-    (λ c. search needs)
-    (λ c. search needs)
-    (λ c. search needs)
-    (λ c. search needs)
-    (λ c. search needs)
-    (λ c. search needs))
+    (tie.spec (λ c κs. search needs) rename-as-requires rename-as-requires-2 rename-as-requires-3 rename-as-requires-4 rename-as-requires-5
+    rename-as-requires-6 rename-as-requires-7 (λ c. search needs) (λ c. search needs) (λ c. search needs) (λ c. search needs)
+    (λ c. search needs) (λ c. search needs) (λ c. search needs) (λ c. search needs) (λ c. search needs) (λ c. search needs)
+    (λ c. search needs) (λ c. search needs) (λ c. search needs) (λ c. search needs))

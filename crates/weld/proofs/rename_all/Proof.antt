@@ -16,9 +16,6 @@ Inv-loop t₀ k n c₀ t c = (c ≤ n) × (length t ≡ length t₀) × (t ≡ p
 abbrev μ-loop : tie.MeasureT-loop
 μ-loop t₀ k n c₀ t c = n - c
 
-room-requires : tie.Need-room-requires Inv-loop μ-loop
-room-requires c κs = search needs
-
 loop-holds : tie.Need-loop-holds Inv-loop μ-loop
 loop-holds c = (omega arith, refl, partly-start _ _ (c .before .before .before .before .pre .0 .sized))
 
@@ -27,12 +24,6 @@ rename-requires c κs =
     let l = c .before .before .loop in
     let s = c .before .before .before .before .before .before .before in
     renamable-here _ _ (l .c) (l .t) _ (s .pre .0) (search needs) (s .pre .1) (l .inv .1) (l .inv .2)
-
-add-c : tie.Need-add-c Inv-loop μ-loop
-add-c c = search needs
-
-loop-less : tie.Need-loop-less Inv-loop μ-loop
-loop-less c = search needs
 
 loop-again : tie.Need-loop-again Inv-loop μ-loop
 loop-again c =
@@ -45,9 +36,6 @@ loop-again c =
           (renamed-as (a .t .now) (l .t) _ (a .k .now) (l .c) (l .inv .1) r),
     )
 
-same-length : tie.Need-same-length Inv-loop μ-loop
-same-length c = search needs
-
 returns : tie.Need-returns Inv-loop μ-loop
 returns c =
     let l = c .before .loop in
@@ -56,14 +44,5 @@ returns c =
 pub rename-all-spec : {M : Type 1} → statement M
 rename-all-spec =
     tie.close
-    (tie.spec
-    Inv-loop
-    μ-loop
-    room-requires
-    loop-holds
-    rename-requires
-    add-c
-    loop-less
-    loop-again
-    same-length
-    returns)
+    (tie.spec Inv-loop μ-loop (λ c κs. search needs) loop-holds rename-requires (λ c. search needs) (λ c. search needs) loop-again
+    (λ c. search needs) returns)

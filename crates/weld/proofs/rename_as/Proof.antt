@@ -22,27 +22,12 @@ Inv-loop t₀ k c m j₀ t j =
 abbrev μ-loop : tie.MeasureT-loop
 μ-loop t₀ k c m j₀ t j = m - j
 
-mul-wide : tie.Need-mul-wide Inv-loop μ-loop
-mul-wide c = search needs
-
-shared-slice-read-wide : tie.Need-shared-slice-read-wide Inv-loop μ-loop
-shared-slice-read-wide c = search needs
-
-wide-requires : tie.Need-wide-requires Inv-loop μ-loop
-wide-requires c κs = search needs
-
 -- what was asked, and that the word compared is where c goes
 abbrev asked : tie.After-wide Inv-loop μ-loop → tie.Start Inv-loop μ-loop
 asked c = c .before .before .before .before
 
 goes : (c : tie.After-wide Inv-loop μ-loop) → c .wide .result ≡ heldBy (asked c .args .k .now) (asked c .args .t .now) (asked c .args .c)
 goes c = c .wide .ensures ∙ sym (map-inside _ _ _ (asked c .pre .0 .inside))
-
-put-requires : tie.Need-put-requires Inv-loop μ-loop
-put-requires c κs = search needs
-
-same-length : tie.Need-same-length Inv-loop μ-loop
-same-length c = search needs
 
 returns : tie.Need-returns Inv-loop μ-loop
 returns c =
@@ -81,12 +66,6 @@ put-face-requires c κs =
     let i = c .before .before .before .before in
     (omega (arith, i .before .loop .inv .1, started i .pre .0 .inside), inside i)
 
-add-j : tie.Need-add-j Inv-loop μ-loop
-add-j c = search needs
-
-loop-less : tie.Need-loop-less Inv-loop μ-loop
-loop-less c = search needs
-
 loop-again : tie.Need-loop-again Inv-loop μ-loop
 loop-again c =
     let p = c .before .before in
@@ -96,9 +75,6 @@ loop-again c =
     let l = i .before .loop in
     let x = image-is _ _ _ (started i .pre .0) (l .t) (l .j) _ _ (place i) (l .inv .2) (f .face .ensures) (m .image .ensures) in
     (search needs, p .put-face .ensures .size ∙ l .inv .1, faced-more _ _ _ (l .t) _ (l .j) _ x (l .inv .2) (p .put-face .ensures))
-
-same-length-2 : tie.Need-same-length-2 Inv-loop μ-loop
-same-length-2 c = search needs
 
 returns-2 : tie.Need-returns-2 Inv-loop μ-loop
 returns-2 c =
@@ -111,21 +87,6 @@ returns-2 c =
 pub rename-as-spec : {M : Type 1} → statement M
 rename-as-spec =
     tie.close
-    (tie.spec
-    Inv-loop
-    μ-loop
-    mul-wide
-    shared-slice-read-wide
-    wide-requires
-    put-requires
-    same-length
-    returns
-    loop-holds
-    face-requires
-    image-requires
-    put-face-requires
-    add-j
-    loop-less
-    loop-again
-    same-length-2
-    returns-2)
+    (tie.spec Inv-loop μ-loop (λ c. search needs) (λ c. search needs) (λ c κs. search needs) (λ c κs. search needs) (λ c. search needs)
+    returns loop-holds face-requires image-requires put-face-requires (λ c. search needs) (λ c. search needs) loop-again
+    (λ c. search needs) returns-2)

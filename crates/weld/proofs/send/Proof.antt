@@ -18,35 +18,11 @@ abbrev μ-loop : tie.MeasureT-loop
 loop-holds : tie.Need-loop-holds Inv-loop μ-loop
 loop-holds c = (omega arith, refl, sent-starts _ _ _)
 
-mul-sent : tie.Need-mul-sent Inv-loop μ-loop
-mul-sent c = search needs
-
-slice-read-sent : tie.Need-slice-read-sent Inv-loop μ-loop
-slice-read-sent c = search needs
-
-sent-requires : tie.Need-sent-requires Inv-loop μ-loop
-sent-requires c κs = search needs
-
-mul-k : tie.Need-mul-k Inv-loop μ-loop
-mul-k c = search needs
-
-slice-write-k : tie.Need-slice-write-k Inv-loop μ-loop
-slice-write-k c = search needs
-
-add-c : tie.Need-add-c Inv-loop μ-loop
-add-c c = search needs
-
-loop-less : tie.Need-loop-less Inv-loop μ-loop
-loop-less c = search needs
-
 loop-again : tie.Need-loop-again Inv-loop μ-loop
 loop-again c =
     let l = c .before .before .before .loop in
     let r = sent-more _ _ (l .c) _ (l .k) (l .inv .2) _ (search needs) (c .sent .ensures) in
     (search needs, r .size, r)
-
-same-length : tie.Need-same-length Inv-loop μ-loop
-same-length c = search needs
 
 returns : tie.Need-returns Inv-loop μ-loop
 returns c = sent-all _ _ _ _ _ (c .before .loop .inv .2) _ (omega (arith, c .before .loop .inv .0, c .loop-test .left))
@@ -54,17 +30,5 @@ returns c = sent-all _ _ _ _ _ (c .before .loop .inv .2) _ (omega (arith, c .bef
 pub send-spec : {M : Type 1} → statement M
 send-spec =
     tie.close
-    (tie.spec
-    Inv-loop
-    μ-loop
-    loop-holds
-    mul-sent
-    slice-read-sent
-    sent-requires
-    mul-k
-    slice-write-k
-    add-c
-    loop-less
-    loop-again
-    same-length
-    returns)
+    (tie.spec Inv-loop μ-loop loop-holds (λ c. search needs) (λ c. search needs) (λ c κs. search needs) (λ c. search needs)
+    (λ c. search needs) (λ c. search needs) (λ c. search needs) loop-again (λ c. search needs) returns)

@@ -8,15 +8,6 @@ use borrow.Author.Needs.{needs}
 use Rattle.weld.proofs.weld.Statement.{statement}
 use Rattle.weld.proofs.weld.Tie as tie
 
-joinable-requires : tie.Need-joinable-requires
-joinable-requires c κs = search needs
-
-enum-known-found : tie.Need-enum-known-found
-enum-known-found c = search needs
-
-enum-told : tie.Need-enum-told
-enum-told c = search needs
-
 -- where the verdict is told to be acceptance, the table and the two cells are as a weld asks
 abbrev asked : tie.After-enum-told → tie.Start
 asked c = c .before .before .before .before .before
@@ -27,22 +18,13 @@ accepted c = verdict-is _ _ _ ∙ sym (c .before .before .joinable .ensures) ∙
 glue-requires : tie.Need-glue-requires
 glue-requires c κs = weld-accepted _ _ _ (accepted (c .before))
 
-same-length : tie.Need-same-length
-same-length c = search needs
-
 returns : tie.Need-returns
 returns c =
     let g = c .before .before .before in
     ends-accepted _ _ _ _ _ (accepted (g .before .before)) (omega (arith, c .if1 .taken)) (g .glue .ensures)
 
-same-length-2 : tie.Need-same-length-2
-same-length-2 c = search needs
-
 returns-2 : tie.Need-returns-2
 returns-2 c = ends-refused _ _ _ _ (verdict-is _ _ _ ∙ sym (c .before .before .before .joinable .ensures) ∙ c .before .found .given .1)
-
-same-length-3 : tie.Need-same-length-3
-same-length-3 c = search needs
 
 returns-3 : tie.Need-returns-3
 returns-3 c =
@@ -52,14 +34,5 @@ returns-3 c =
 pub weld-spec : {M : Type 1} → statement M
 weld-spec =
     tie.close
-    (tie.spec
-    joinable-requires
-    enum-known-found
-    enum-told
-    glue-requires
-    same-length
-    returns
-    same-length-2
-    returns-2
-    same-length-3
-    returns-3)
+    (tie.spec (λ c κs. search needs) (λ c. search needs) (λ c. search needs) glue-requires (λ c. search needs) returns (λ c. search needs)
+    returns-2 (λ c. search needs) returns-3)

@@ -10,12 +10,6 @@ use Rattle.writer.proofs.next_start.Tie as tie
 body-size : (c : tie.After-record-size) → let a = c .before .args in a .count * c .record-size .result ≡ a .count * recordSize (a .p)
 body-size c = ap (λ u. c .before .args .count * u) (c .record-size .ensures .0)
 
-cast-record-size : tie.Need-cast-record-size
-cast-record-size c = search needs
-
-record-size-requires : tie.Need-record-size-requires
-record-size-requires c κs = search needs
-
 mul-result : tie.Need-mul-result
 mul-result c = omega (arith, body-size c)
 
@@ -26,4 +20,4 @@ returns : tie.Need-returns
 returns c = omega (arith, body-size c)
 
 pub next-start-spec : {M : Type 1} → statement M
-next-start-spec = tie.close (tie.spec cast-record-size record-size-requires mul-result add-result returns)
+next-start-spec = tie.close (tie.spec (λ c. search needs) (λ c κs. search needs) mul-result add-result returns)

@@ -16,25 +16,10 @@ Inv-loop t target₀ cells ends₀ c₀ target ends c = (c ≤ cells) × Filling
 abbrev μ-loop : tie.MeasureT-loop
 μ-loop t target₀ cells ends₀ c₀ target ends c = cells - c
 
-room-requires : tie.Need-room-requires Inv-loop μ-loop
-room-requires c κs = search needs
-
 loop-holds : tie.Need-loop-holds Inv-loop μ-loop
 loop-holds c =
     let s = c .before .before .before in
     (omega arith, filling-none _ _ _ (search needs) (s .pre .0))
-
-dim-requires : tie.Need-dim-requires Inv-loop μ-loop
-dim-requires c κs = search needs
-
-cast-p : tie.Need-cast-p Inv-loop μ-loop
-cast-p c = search needs
-
-mul-put-cell : tie.Need-mul-put-cell Inv-loop μ-loop
-mul-put-cell c = search needs
-
-array-read-put-cell : tie.Need-array-read-put-cell Inv-loop μ-loop
-array-read-put-cell c = search needs
 
 put-cell-requires : tie.Need-put-cell-requires Inv-loop μ-loop
 put-cell-requires c κs =
@@ -43,18 +28,6 @@ put-cell-requires c κs =
     let s = l .before .before .before .before in
     let inside : l .loop .c < cellsOf (s .args .t .now) = omega arith in
     (inside, record-fits (l .loop .inv .1) _ inside (omega arith) (sym (d .dim .ensures)) (s .pre .1))
-
-mul-ends : tie.Need-mul-ends Inv-loop μ-loop
-mul-ends c = search needs
-
-array-write-ends : tie.Need-array-write-ends Inv-loop μ-loop
-array-write-ends c = search needs
-
-add-c : tie.Need-add-c Inv-loop μ-loop
-add-c c = search needs
-
-loop-less : tie.Need-loop-less Inv-loop μ-loop
-loop-less c = search needs
 
 loop-again : tie.Need-loop-again Inv-loop μ-loop
 loop-again c =
@@ -69,9 +42,6 @@ loop-again c =
           (c .if1 .came),
     )
 
-same-length : tie.Need-same-length Inv-loop μ-loop
-same-length c = search needs
-
 returns : tie.Need-returns Inv-loop μ-loop
 returns c =
     let l = c .before .loop in
@@ -81,20 +51,6 @@ returns c =
 pub put-bodies-spec : {M : Type 1} → statement M
 put-bodies-spec =
     tie.close
-    (tie.spec
-    Inv-loop
-    μ-loop
-    room-requires
-    loop-holds
-    dim-requires
-    cast-p
-    mul-put-cell
-    array-read-put-cell
-    put-cell-requires
-    mul-ends
-    array-write-ends
-    add-c
-    loop-less
-    loop-again
-    same-length
-    returns)
+    (tie.spec Inv-loop μ-loop (λ c κs. search needs) loop-holds (λ c κs. search needs) (λ c. search needs) (λ c. search needs)
+    (λ c. search needs) put-cell-requires (λ c. search needs) (λ c. search needs) (λ c. search needs) (λ c. search needs) loop-again
+    (λ c. search needs) returns)

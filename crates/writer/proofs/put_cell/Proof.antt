@@ -20,24 +20,12 @@ Inv-loop t c target₀ at used end₀ j₀ target end j = (j ≤ used) × Put ta
 abbrev μ-loop : tie.MeasureT-loop
 μ-loop t c target₀ at used end₀ j₀ target end j = used - j
 
-dim-requires : tie.Need-dim-requires Inv-loop μ-loop
-dim-requires c κs = search needs
-
-used-requires : tie.Need-used-requires Inv-loop μ-loop
-used-requires c κs = search needs
-
 put-two-requires : tie.Need-put-two-requires Inv-loop μ-loop
 put-two-requires c κs =
     let s = c .before .before .before .before .before in omega (arith, s .pre .1, length-cell (s .args .t .now) (s .args .c))
 
 loop-holds : tie.Need-loop-holds Inv-loop μ-loop
 loop-holds c = (omega arith, put-no-piece _)
-
-face-requires : tie.Need-face-requires Inv-loop μ-loop
-face-requires c κs = search needs
-
-cast-put-two : tie.Need-cast-put-two Inv-loop μ-loop
-cast-put-two c = search needs
 
 put-two-requires-2 : tie.Need-put-two-requires-2 Inv-loop μ-loop
 put-two-requires-2 c κs =
@@ -52,21 +40,12 @@ put-two-requires-2 c κs =
       length-two (face (a .t .now) (a .c) (l .loop .j)),
     )
 
-add-j : tie.Need-add-j Inv-loop μ-loop
-add-j c = search needs
-
-loop-less : tie.Need-loop-less Inv-loop μ-loop
-loop-less c = search needs
-
 loop-again : tie.Need-loop-again Inv-loop μ-loop
 loop-again c =
     let f = c .before .before .before in
     let l = f .before .before .before in
     let a = l .before .before .before .before .before .before .before .before .before .args in
     (omega arith, put-piece (faceBytes (a .t .now) (a .c)) (l .loop .inv .1) (put-as (ap two (f .face .ensures)) (c .before .before .put-two2 .ensures)))
-
-same-length : tie.Need-same-length Inv-loop μ-loop
-same-length c = search needs
 
 returns : tie.Need-returns Inv-loop μ-loop
 returns c =
@@ -79,18 +58,5 @@ returns c =
 pub put-cell-spec : {M : Type 1} → statement M
 put-cell-spec =
     tie.close
-    (tie.spec
-    Inv-loop
-    μ-loop
-    dim-requires
-    used-requires
-    put-two-requires
-    loop-holds
-    face-requires
-    cast-put-two
-    put-two-requires-2
-    add-j
-    loop-less
-    loop-again
-    same-length
-    returns)
+    (tie.spec Inv-loop μ-loop (λ c κs. search needs) (λ c κs. search needs) put-two-requires loop-holds (λ c κs. search needs)
+    (λ c. search needs) put-two-requires-2 (λ c. search needs) (λ c. search needs) loop-again (λ c. search needs) returns)

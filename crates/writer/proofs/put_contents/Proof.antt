@@ -20,29 +20,11 @@ Inv-loop t target₀ counts starts end₀ p₀ target end p = (p ≤ dimensions)
 abbrev μ-loop : tie.MeasureT-loop
 μ-loop t target₀ counts starts end₀ p₀ target end p = dimensions - p
 
-room-requires : tie.Need-room-requires Inv-loop μ-loop
-room-requires c κs = search needs
-
 put-two-requires : tie.Need-put-two-requires Inv-loop μ-loop
 put-two-requires c κs = omega (arith, length-contents (c .before .before .before .before .args .t .now))
 
 loop-holds : tie.Need-loop-holds Inv-loop μ-loop
 loop-holds c = (omega arith, put-no-piece _)
-
-mul-put-entry : tie.Need-mul-put-entry Inv-loop μ-loop
-mul-put-entry c = search needs
-
-array-read-put-entry : tie.Need-array-read-put-entry Inv-loop μ-loop
-array-read-put-entry c = search needs
-
-cast-put-entry : tie.Need-cast-put-entry Inv-loop μ-loop
-cast-put-entry c = search needs
-
-mul-put-entry-2 : tie.Need-mul-put-entry-2 Inv-loop μ-loop
-mul-put-entry-2 c = search needs
-
-array-read-put-entry-2 : tie.Need-array-read-put-entry-2 Inv-loop μ-loop
-array-read-put-entry-2 c = search needs
 
 put-entry-requires : tie.Need-put-entry-requires Inv-loop μ-loop
 put-entry-requires c κs =
@@ -56,12 +38,6 @@ put-entry-requires c κs =
       length-entry (countOf t (l .loop .p)) (bodyStart (countOf t) (l .loop .p)),
     )
 
-add-p : tie.Need-add-p Inv-loop μ-loop
-add-p c = search needs
-
-loop-less : tie.Need-loop-less Inv-loop μ-loop
-loop-less c = search needs
-
 loop-again : tie.Need-loop-again Inv-loop μ-loop
 loop-again c =
     let e = c .before .before in
@@ -73,9 +49,6 @@ loop-again c =
           (put-as (ap₂ entry (s .pre .0 .each _ taken) (s .pre .1 .each-start _ (omega arith))) (e .put-entry .ensures)),
     )
 
-same-length : tie.Need-same-length Inv-loop μ-loop
-same-length c = search needs
-
 returns : tie.Need-returns Inv-loop μ-loop
 returns c =
     let l = c .before .loop in
@@ -85,20 +58,6 @@ returns c =
 pub put-contents-spec : {M : Type 1} → statement M
 put-contents-spec =
     tie.close
-    (tie.spec
-    Inv-loop
-    μ-loop
-    room-requires
-    put-two-requires
-    loop-holds
-    mul-put-entry
-    array-read-put-entry
-    cast-put-entry
-    mul-put-entry-2
-    array-read-put-entry-2
-    put-entry-requires
-    add-p
-    loop-less
-    loop-again
-    same-length
-    returns)
+    (tie.spec Inv-loop μ-loop (λ c κs. search needs) put-two-requires loop-holds (λ c. search needs) (λ c. search needs)
+    (λ c. search needs) (λ c. search needs) (λ c. search needs) put-entry-requires (λ c. search needs) (λ c. search needs) loop-again
+    (λ c. search needs) returns)

@@ -6,18 +6,12 @@ use Rattle.writer.proofs.Pasting.{put-as, put-then, two-and-two}
 use Rattle.writer.proofs.put_four.Statement.{statement}
 use Rattle.writer.proofs.put_four.Tie as tie
 
-put-two-requires : tie.Need-put-two-requires
-put-two-requires c κs = search needs
-
 put-two-requires-2 : tie.Need-put-two-requires-2
 put-two-requires-2 c κs = omega (arith, length-two (c .before .before .before .before .before .before .args .offset))
-
-same-length : tie.Need-same-length
-same-length c = search needs
 
 returns : tie.Need-returns
 returns c =
     put-as (two-and-two _) (put-then (c .before .before .before .before .before .before .put-two .ensures) (c .before .before .put-two2 .ensures))
 
 pub put-four-spec : {M : Type 1} → statement M
-put-four-spec = tie.close (tie.spec put-two-requires put-two-requires-2 same-length returns)
+put-four-spec = tie.close (tie.spec (λ c κs. search needs) put-two-requires-2 (λ c. search needs) returns)

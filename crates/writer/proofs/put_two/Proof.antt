@@ -6,27 +6,9 @@ use Rattle.writer.proofs.Pasting.{put-two}
 use Rattle.writer.proofs.put_two.Statement.{statement}
 use Rattle.writer.proofs.put_two.Tie as tie
 
-cast-target : tie.Need-cast-target
-cast-target c = search needs
-
-slice-write-target : tie.Need-slice-write-target
-slice-write-target c = search needs
-
-cast-target-2 : tie.Need-cast-target-2
-cast-target-2 c = search needs
-
-add-target : tie.Need-add-target
-add-target c = search needs
-
 slice-write-target-2 : tie.Need-slice-write-target-2
 slice-write-target-2 c =
     simp length-set (omega arith)
-
-add-result : tie.Need-add-result
-add-result c = search needs
-
-same-length : tie.Need-same-length
-same-length c = search needs
 
 returns : tie.Need-returns
 returns c =
@@ -35,12 +17,5 @@ returns c =
 pub put-two-spec : {M : Type 1} → statement M
 put-two-spec =
     tie.close
-    (tie.spec
-    cast-target
-    slice-write-target
-    cast-target-2
-    add-target
-    slice-write-target-2
-    add-result
-    same-length
-    returns)
+    (tie.spec (λ c. search needs) (λ c. search needs) (λ c. search needs) (λ c. search needs) slice-write-target-2 (λ c. search needs)
+    (λ c. search needs) returns)

@@ -16,15 +16,6 @@ use Rattle.writer.proofs.Answers.{ends-refused, ends-without-room, ends
 use Rattle.writer.proofs.write.Statement.{statement}
 use Rattle.writer.proofs.write.Tie as tie
 
-audit-requires : tie.Need-audit-requires
-audit-requires c κs = search needs
-
-enum-known-found : tie.Need-enum-known-found
-enum-known-found c = search needs
-
-enum-told : tie.Need-enum-told
-enum-told c = search needs
-
 -- where the verdict is told to be acceptance, the table is valid
 valid : (c : tie.After-enum-told) → Valid (c .before .before .before .before .before .args .t .now)
 valid c = audit-accepts-iff-valid _ .0 (sym (c .before .before .audit .ensures) ∙ c .enum-told .given .1)
@@ -43,9 +34,6 @@ started :
     (c : tie.After-body-starts) →
     Started (countOf (c .before .before .before .before .before .before .before .args .t .now)) (c .body-starts .result)
 started c = table-starts _ _ _ (counted (c .before)) (c .body-starts .ensures)
-
-array-read-size : tie.Need-array-read-size
-array-read-size c = search needs
 
 -- the last of the starts is the file's length
 size :
@@ -76,9 +64,6 @@ put-bodies-requires c κs =
 returns-2 : tie.Need-returns-2
 returns-2 c = ends-refused _ _ _ (sym (c .before .before .before .audit .ensures) ∙ c .before .found .given .1)
 
-same-length : tie.Need-same-length
-same-length c = search needs
-
 returns-3 : tie.Need-returns-3
 returns-3 c =
     let b = c .before .before in
@@ -90,16 +75,5 @@ returns-3 c =
 pub write-spec : {M : Type 1} → statement M
 write-spec =
     tie.close
-    (tie.spec
-    audit-requires
-    enum-known-found
-    enum-told
-    census-requires
-    body-starts-requires
-    array-read-size
-    returns
-    put-contents-requires
-    put-bodies-requires
-    returns-2
-    same-length
-    returns-3)
+    (tie.spec (λ c κs. search needs) (λ c. search needs) (λ c. search needs) census-requires body-starts-requires (λ c. search needs)
+    returns put-contents-requires put-bodies-requires returns-2 (λ c. search needs) returns-3)

@@ -7,16 +7,10 @@ use Rattle.bitset.proofs.RowLaws.{length-row}
 use Rattle.bitset.proofs.matrix.add_kept.Statement.{statement}
 use Rattle.bitset.proofs.matrix.add_kept.Tie as tie
 
-row-requires : tie.Need-row-requires
-row-requires c κs = search needs
-
 add-requires : tie.Need-add-requires
 add-requires c κs =
     let a = c .before .before .before .before in
     a .pre .1 ∙ sym (ap length (c .row .ensures) ∙ length-row (a .args .w) (a .args .ws .now) (a .args .m) (a .pre .0))
-
-same-length : tie.Need-same-length
-same-length c = search needs
 
 returns : tie.Need-returns
 returns c =
@@ -24,4 +18,4 @@ returns c =
     c .before .before .add .ensures ∙ ap (sumOf (r .before .before .before .before .args .into .now)) (r .row .ensures)
 
 pub add-kept-spec : {M : Type 1} → statement M
-add-kept-spec = tie.close (tie.spec row-requires add-requires same-length returns)
+add-kept-spec = tie.close (tie.spec (λ c κs. search needs) add-requires (λ c. search needs) returns)

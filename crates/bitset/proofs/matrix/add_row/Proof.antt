@@ -22,17 +22,11 @@ mul-add-words-2 c = omega (arith, room-full (c .before), c .before .before .befo
 add-words-requires : tie.Need-add-words-requires
 add-words-requires c κs = (row-before fullWidth _ _ (c .before .before .before .pre .0), room-full (c .before))
 
-same-length : tie.Need-same-length
-same-length c = search needs
-
 returns : tie.Need-returns
 returns c =
     let full = c .before .before .before .before in
     let a = full .before .before in
     rw (full .if1 .taken) (row-added fullWidth _ _ _ _ (a .pre .0) (room-full full) (c .before .before .add-words .ensures))
-
-mul-add-words-3 : tie.Need-mul-add-words-3
-mul-add-words-3 c = search needs
 
 mul-add-words-4 : tie.Need-mul-add-words-4
 mul-add-words-4 c =
@@ -42,9 +36,6 @@ mul-add-words-4 c =
 add-words-requires-2 : tie.Need-add-words-requires-2
 add-words-requires-2 c κs = let a = c .before .before .before in (row-before _ _ _ (a .pre .0), a .pre .1)
 
-same-length-2 : tie.Need-same-length-2
-same-length-2 c = search needs
-
 returns-2 : tie.Need-returns-2
 returns-2 c =
     let a = c .before .before .before .before .before .before in
@@ -53,14 +44,5 @@ returns-2 c =
 pub add-row-spec : {M : Type 1} → statement M
 add-row-spec =
     tie.close
-    (tie.spec
-    mul-add-words
-    mul-add-words-2
-    add-words-requires
-    same-length
-    returns
-    mul-add-words-3
-    mul-add-words-4
-    add-words-requires-2
-    same-length-2
-    returns-2)
+    (tie.spec mul-add-words mul-add-words-2 add-words-requires (λ c. search needs) returns (λ c. search needs) mul-add-words-4
+    add-words-requires-2 (λ c. search needs) returns-2)

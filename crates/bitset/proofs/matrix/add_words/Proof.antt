@@ -20,47 +20,11 @@ abbrev μ-loop : tie.MeasureT-loop
 loop-holds : tie.Need-loop-holds Inv-loop μ-loop
 loop-holds c = (search needs, search needs, run-none _ _ _)
 
-add-ws : tie.Need-add-ws Inv-loop μ-loop
-add-ws c = search needs
-
-mul-ws : tie.Need-mul-ws Inv-loop μ-loop
-mul-ws c = search needs
-
-slice-read-ws : tie.Need-slice-read-ws Inv-loop μ-loop
-slice-read-ws c = search needs
-
-add-ws-2 : tie.Need-add-ws-2 Inv-loop μ-loop
-add-ws-2 c = search needs
-
-mul-ws-2 : tie.Need-mul-ws-2 Inv-loop μ-loop
-mul-ws-2 c = search needs
-
-slice-read-ws-2 : tie.Need-slice-read-ws-2 Inv-loop μ-loop
-slice-read-ws-2 c = search needs
-
-add-ws-3 : tie.Need-add-ws-3 Inv-loop μ-loop
-add-ws-3 c = search needs
-
-mul-ws-3 : tie.Need-mul-ws-3 Inv-loop μ-loop
-mul-ws-3 c = search needs
-
-slice-write-ws : tie.Need-slice-write-ws Inv-loop μ-loop
-slice-write-ws c = search needs
-
-add-k : tie.Need-add-k Inv-loop μ-loop
-add-k c = search needs
-
-loop-less : tie.Need-loop-less Inv-loop μ-loop
-loop-less c = search needs
-
 loop-again : tie.Need-loop-again Inv-loop μ-loop
 loop-again c =
     let a = c .before .before .before .before in
     let l = c .before .before .before .loop in
     (search needs, simp length-set (l .inv .1), word-added _ _ _ _ (l .k) (l .ws) (a .pre .0) (a .pre .1) (c .before .before .loop-test .taken) (l .inv .2))
-
-same-length : tie.Need-same-length Inv-loop μ-loop
-same-length c = search needs
 
 returns : tie.Need-returns Inv-loop μ-loop
 returns c = let l = c .before .loop in run-ends (l .k) (omega (arith, c .loop-test .left)) (l .inv .2)
@@ -68,21 +32,6 @@ returns c = let l = c .before .loop in run-ends (l .k) (omega (arith, c .loop-te
 pub add-words-spec : {M : Type 1} → statement M
 add-words-spec =
     tie.close
-    (tie.spec
-    Inv-loop
-    μ-loop
-    loop-holds
-    add-ws
-    mul-ws
-    slice-read-ws
-    add-ws-2
-    mul-ws-2
-    slice-read-ws-2
-    add-ws-3
-    mul-ws-3
-    slice-write-ws
-    add-k
-    loop-less
-    loop-again
-    same-length
-    returns)
+    (tie.spec Inv-loop μ-loop loop-holds (λ c. search needs) (λ c. search needs) (λ c. search needs) (λ c. search needs)
+    (λ c. search needs) (λ c. search needs) (λ c. search needs) (λ c. search needs) (λ c. search needs) (λ c. search needs)
+    (λ c. search needs) loop-again (λ c. search needs) returns)

@@ -19,23 +19,11 @@ mul-keep-words c = omega (arith, room-full (c .before))
 keep-words-requires : tie.Need-keep-words-requires
 keep-words-requires c κs = (room-full (c .before), omega (arith, c .before .if1 .taken, c .before .before .before .before .pre .1))
 
-same-length : tie.Need-same-length
-same-length c = search needs
-
 returns : tie.Need-returns
 returns c =
     let full = c .before .before .before .before in
     let a = full .before .before .before in
     rw (full .if1 .taken) (row-kept fullWidth _ _ _ _ (a .pre .1 ∙ full .if1 .taken) (room-full full) (c .before .before .keep-words .ensures))
-
-mul-keep-words-2 : tie.Need-mul-keep-words-2
-mul-keep-words-2 c = search needs
-
-keep-words-requires-2 : tie.Need-keep-words-requires-2
-keep-words-requires-2 c κs = search needs
-
-same-length-2 : tie.Need-same-length-2
-same-length-2 c = search needs
 
 returns-2 : tie.Need-returns-2
 returns-2 c =
@@ -45,12 +33,5 @@ returns-2 c =
 pub keep-row-spec : {M : Type 1} → statement M
 keep-row-spec =
     tie.close
-    (tie.spec
-    mul-keep-words
-    keep-words-requires
-    same-length
-    returns
-    mul-keep-words-2
-    keep-words-requires-2
-    same-length-2
+    (tie.spec mul-keep-words keep-words-requires (λ c. search needs) returns (λ c. search needs) (λ c κs. search needs) (λ c. search needs)
     returns-2)

@@ -17,40 +17,16 @@ Inv-loop t marks n end leaks₀ top₀ c₀ leaks top c = Passed t marks c leaks
 abbrev μ-loop : tie.MeasureT-loop
 μ-loop t marks n end leaks₀ top₀ c₀ leaks top c = end - c
 
-room-requires : tie.Need-room-requires Inv-loop μ-loop
-room-requires c κs = search needs
-
-marks-end-requires : tie.Need-marks-end-requires Inv-loop μ-loop
-marks-end-requires c κs = search needs
-
 returns : tie.Need-returns Inv-loop μ-loop
 returns c = past-refused _ _ _ (c .before .marks-end .ensures) (omega arith)
 
 loop-holds : tie.Need-loop-holds Inv-loop μ-loop
 loop-holds c = (pass-starts _ _, omega arith, omega arith)
 
-has-requires : tie.Need-has-requires Inv-loop μ-loop
-has-requires c κs = search needs
-
-live-requires : tie.Need-live-requires Inv-loop μ-loop
-live-requires c κs = search needs
-
 returns-2 : tie.Need-returns-2 Inv-loop μ-loop
 returns-2 c =
     let b = c .before .before .before in
     dead-refused _ _ _ (sym (b .has .ensures) ∙ c .before .before .if2 .taken) (sym (c .before .live .ensures) ∙ not-true _ (c .if3 .taken))
-
-face-open-requires : tie.Need-face-open-requires Inv-loop μ-loop
-face-open-requires c κs = search needs
-
-dim-requires : tie.Need-dim-requires Inv-loop μ-loop
-dim-requires c κs = search needs
-
-add-c : tie.Need-add-c Inv-loop μ-loop
-add-c c = search needs
-
-loop-less : tie.Need-loop-less Inv-loop μ-loop
-loop-less c = search needs
 
 loop-again : tie.Need-loop-again Inv-loop μ-loop
 loop-again c =
@@ -81,21 +57,6 @@ returns-5 c = sym (over (c .before .before) ∙ rw (c .before .if4 .left, c .if5
 pub asked-spec : {M : Type 1} → statement M
 asked-spec =
     tie.close
-    (tie.spec
-    Inv-loop
-    μ-loop
-    room-requires
-    marks-end-requires
-    returns
-    loop-holds
-    has-requires
-    live-requires
-    returns-2
-    face-open-requires
-    dim-requires
-    add-c
-    loop-less
-    loop-again
-    returns-3
-    returns-4
-    returns-5)
+    (tie.spec Inv-loop μ-loop (λ c κs. search needs) (λ c κs. search needs) returns loop-holds (λ c κs. search needs)
+    (λ c κs. search needs) returns-2 (λ c κs. search needs) (λ c κs. search needs) (λ c. search needs) (λ c. search needs) loop-again
+    returns-3 returns-4 returns-5)

@@ -26,36 +26,9 @@ Inv-loop t marks c used fs leaks₀ j₀ leaks j =
 abbrev μ-loop : tie.MeasureT-loop
 μ-loop t marks c used fs leaks₀ j₀ leaks j = used - j
 
-dim-requires : tie.Need-dim-requires Inv-loop μ-loop
-dim-requires c κs = search needs
-
-used-requires : tie.Need-used-requires Inv-loop μ-loop
-used-requires c κs = search needs
-
-faces-requires : tie.Need-faces-requires Inv-loop μ-loop
-faces-requires c κs = search needs
-
 loop-holds : tie.Need-loop-holds Inv-loop μ-loop
 loop-holds c =
     (omega arith, c .before .used .ensures .0 ∙ ap usedOf (c .before .before .dim .ensures), c .before .used .ensures .1, c .faces .ensures, flag-starts _)
-
-mul-has : tie.Need-mul-has Inv-loop μ-loop
-mul-has c = search needs
-
-array-read-has : tie.Need-array-read-has Inv-loop μ-loop
-array-read-has c = search needs
-
-cast-has : tie.Need-cast-has Inv-loop μ-loop
-cast-has c = search needs
-
-has-requires : tie.Need-has-requires Inv-loop μ-loop
-has-requires c κs = search needs
-
-add-j : tie.Need-add-j Inv-loop μ-loop
-add-j c = search needs
-
-loop-less : tie.Need-loop-less Inv-loop μ-loop
-loop-less c = search needs
 
 loop-again : tie.Need-loop-again Inv-loop μ-loop
 loop-again c =
@@ -74,18 +47,5 @@ returns c = c .before .loop .inv .4 ∙ ap (someHas _) (omega arith)
 pub face-open-spec : {M : Type 1} → statement M
 face-open-spec =
     tie.close
-    (tie.spec
-    Inv-loop
-    μ-loop
-    dim-requires
-    used-requires
-    faces-requires
-    loop-holds
-    mul-has
-    array-read-has
-    cast-has
-    has-requires
-    add-j
-    loop-less
-    loop-again
-    returns)
+    (tie.spec Inv-loop μ-loop (λ c κs. search needs) (λ c κs. search needs) (λ c κs. search needs) loop-holds (λ c. search needs)
+    (λ c. search needs) (λ c. search needs) (λ c κs. search needs) (λ c. search needs) (λ c. search needs) loop-again returns)

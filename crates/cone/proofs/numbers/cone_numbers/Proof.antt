@@ -15,37 +15,10 @@ Inv-loop t marks apex end numbers₀ n last₀ s₀ numbers last s = (s ≤ end)
 abbrev μ-loop : tie.MeasureT-loop
 μ-loop t marks apex end numbers₀ n last₀ s₀ numbers last s = end - s
 
-room-requires : tie.Need-room-requires Inv-loop μ-loop
-room-requires c κs = search needs
-
 loop-holds : tie.Need-loop-holds Inv-loop μ-loop
 loop-holds c =
     let b = c .before .before .before in
     (search needs, giving-starts (b .args .t .now) _ _ _ _ (c .room .ensures) (b .pre .0) (b .pre .1) (b .pre .2))
-
-has-requires : tie.Need-has-requires Inv-loop μ-loop
-has-requires c κs = search needs
-
-add-next-free : tie.Need-add-next-free Inv-loop μ-loop
-add-next-free c = search needs
-
-next-free-requires : tie.Need-next-free-requires Inv-loop μ-loop
-next-free-requires c κs = search needs
-
-cast-numbers : tie.Need-cast-numbers Inv-loop μ-loop
-cast-numbers c = search needs
-
-mul-numbers : tie.Need-mul-numbers Inv-loop μ-loop
-mul-numbers c = search needs
-
-element-write-numbers : tie.Need-element-write-numbers Inv-loop μ-loop
-element-write-numbers c = search needs
-
-add-s : tie.Need-add-s Inv-loop μ-loop
-add-s c = search needs
-
-loop-less : tie.Need-loop-less Inv-loop μ-loop
-loop-less c = search needs
 
 loop-again : tie.Need-loop-again Inv-loop μ-loop
 loop-again c =
@@ -67,18 +40,5 @@ returns c =
 pub cone-numbers-spec : {M : Type 1} → statement M
 cone-numbers-spec =
     tie.close
-    (tie.spec
-    Inv-loop
-    μ-loop
-    room-requires
-    loop-holds
-    has-requires
-    add-next-free
-    next-free-requires
-    cast-numbers
-    mul-numbers
-    element-write-numbers
-    add-s
-    loop-less
-    loop-again
-    returns)
+    (tie.spec Inv-loop μ-loop (λ c κs. search needs) loop-holds (λ c κs. search needs) (λ c. search needs) (λ c κs. search needs)
+    (λ c. search needs) (λ c. search needs) (λ c. search needs) (λ c. search needs) (λ c. search needs) loop-again returns)

@@ -15,25 +15,13 @@ Inv-loop t from n c₀ c = (n ≡ cellsOf t) × NoneTo t from c
 abbrev μ-loop : tie.MeasureT-loop
 μ-loop t from n c₀ c = n - c
 
-room-requires : tie.Need-room-requires Inv-loop μ-loop
-room-requires c κs = search needs
-
 loop-holds : tie.Need-loop-holds Inv-loop μ-loop
 loop-holds c = (c .room .ensures, refl)
-
-live-requires : tie.Need-live-requires Inv-loop μ-loop
-live-requires c κs = search needs
 
 returns : tie.Need-returns Inv-loop μ-loop
 returns c =
     let l = c .before .before .before .loop in
     (free-found _ _ (l .c) (l .inv .1) (omega arith) (sym (c .before .live .ensures) ∙ not-true _ (c .if1 .taken)), search needs)
-
-add-c : tie.Need-add-c Inv-loop μ-loop
-add-c c = search needs
-
-loop-less : tie.Need-loop-less Inv-loop μ-loop
-loop-less c = search needs
 
 loop-again : tie.Need-loop-again Inv-loop μ-loop
 loop-again c =
@@ -48,14 +36,5 @@ returns-2 c =
 pub next-free-spec : {M : Type 1} → statement M
 next-free-spec =
     tie.close
-    (tie.spec
-    Inv-loop
-    μ-loop
-    room-requires
-    loop-holds
-    live-requires
-    returns
-    add-c
-    loop-less
-    loop-again
-    returns-2)
+    (tie.spec Inv-loop μ-loop (λ c κs. search needs) loop-holds (λ c κs. search needs) returns (λ c. search needs) (λ c. search needs)
+    loop-again returns-2)

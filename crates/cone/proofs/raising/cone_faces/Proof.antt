@@ -18,25 +18,10 @@ Inv-loop t s apex p k numbers f r₀ j₀ r j =
 abbrev μ-loop : tie.MeasureT-loop
 μ-loop t s apex p k numbers f r₀ j₀ r j = k - j
 
-faces-requires : tie.Need-faces-requires Inv-loop μ-loop
-faces-requires c κs = search needs
-
-array-write-r : tie.Need-array-write-r Inv-loop μ-loop
-array-write-r c = search needs
-
 loop-holds : tie.Need-loop-holds Inv-loop μ-loop
 loop-holds c =
     let a = c .before .before in
     (search needs, few-sides (a .args .t .now) _ _ _ (a .pre .0) (a .pre .2), refl, sided-none _ _)
-
-mul-r : tie.Need-mul-r Inv-loop μ-loop
-mul-r c = search needs
-
-array-read-r : tie.Need-array-read-r Inv-loop μ-loop
-array-read-r c = search needs
-
-cast-r : tie.Need-cast-r Inv-loop μ-loop
-cast-r c = search needs
 
 element-copy-out-r : tie.Need-element-copy-out-r Inv-loop μ-loop
 element-copy-out-r c =
@@ -46,18 +31,6 @@ element-copy-out-r c =
 
 mul-r-2 : tie.Need-mul-r-2 Inv-loop μ-loop
 mul-r-2 c = omega (arith, element-copy-out-r c)
-
-mul-r-3 : tie.Need-mul-r-3 Inv-loop μ-loop
-mul-r-3 c = search needs
-
-array-write-r-2 : tie.Need-array-write-r-2 Inv-loop μ-loop
-array-write-r-2 c = search needs
-
-add-j : tie.Need-add-j Inv-loop μ-loop
-add-j c = search needs
-
-loop-less : tie.Need-loop-less Inv-loop μ-loop
-loop-less c = search needs
 
 loop-again : tie.Need-loop-again Inv-loop μ-loop
 loop-again c =
@@ -71,15 +44,6 @@ loop-again c =
           (ap (λ k. getD (a .numbers .now) k 0) (faces-at (a .t .now) (a .s) (b .faces .result) (b .faces .ensures) (l .j) (omega arith)))
           (l .inv .3),
     )
-
-cast-r-2 : tie.Need-cast-r-2 Inv-loop μ-loop
-cast-r-2 c = search needs
-
-mul-r-4 : tie.Need-mul-r-4 Inv-loop μ-loop
-mul-r-4 c = search needs
-
-array-write-r-3 : tie.Need-array-write-r-3 Inv-loop μ-loop
-array-write-r-3 c = search needs
 
 returns : tie.Need-returns Inv-loop μ-loop
 returns c =
@@ -95,23 +59,6 @@ returns c =
 pub cone-faces-spec : {M : Type 1} → statement M
 cone-faces-spec =
     tie.close
-    (tie.spec
-    Inv-loop
-    μ-loop
-    faces-requires
-    array-write-r
-    loop-holds
-    mul-r
-    array-read-r
-    cast-r
-    mul-r-2
-    element-copy-out-r
-    mul-r-3
-    array-write-r-2
-    add-j
-    loop-less
-    loop-again
-    cast-r-2
-    mul-r-4
-    array-write-r-3
-    returns)
+    (tie.spec Inv-loop μ-loop (λ c κs. search needs) (λ c. search needs) loop-holds (λ c. search needs) (λ c. search needs)
+    (λ c. search needs) mul-r-2 element-copy-out-r (λ c. search needs) (λ c. search needs) (λ c. search needs) (λ c. search needs)
+    loop-again (λ c. search needs) (λ c. search needs) (λ c. search needs) returns)

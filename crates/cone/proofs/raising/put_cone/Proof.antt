@@ -9,9 +9,6 @@ use Rattle.cone.specs.Parts.{ConeableAs}
 use Rattle.cone.proofs.raising.put_cone.Statement.{statement}
 use Rattle.cone.proofs.raising.put_cone.Tie as tie
 
-dim-requires : tie.Need-dim-requires
-dim-requires c κs = search needs
-
 -- where the cell that was read has dimension k, the arm of k is right
 arm :
     (c : tie.After-dim) (k : ℕ) → c .dim .result ≡ k →
@@ -42,23 +39,7 @@ put-cone-as-requires-6 c κs = arm (c .before .before) 5 (omega arith)
 pub put-cone-spec : {M : Type 1} → statement M
 put-cone-spec =
     tie.close
-    (tie.spec
-    dim-requires
-    put-cone-as-requires
-    put-cone-as-requires-2
-    put-cone-as-requires-3
-    put-cone-as-requires-4
-    put-cone-as-requires-5
-    put-cone-as-requires-6
-    (λ c. search needs)
-    (λ c. search needs)
-    (λ c. search needs)
-    (λ c. search needs)
-    (λ c. search needs)
-    (λ c. search needs)
-    (λ c. search needs)
-    (λ c. search needs)
-    (λ c. search needs)
-    (λ c. search needs)
-    (λ c. search needs)
-    (λ c. search needs))
+    (tie.spec (λ c κs. search needs) put-cone-as-requires put-cone-as-requires-2 put-cone-as-requires-3 put-cone-as-requires-4
+    put-cone-as-requires-5 put-cone-as-requires-6 (λ c. search needs) (λ c. search needs) (λ c. search needs) (λ c. search needs)
+    (λ c. search needs) (λ c. search needs) (λ c. search needs) (λ c. search needs) (λ c. search needs) (λ c. search needs)
+    (λ c. search needs) (λ c. search needs))

@@ -5,24 +5,6 @@ use Rattle.table.proofs.Stores.{stored-alike}
 use Rattle.cone.proofs.raising.put_cone_as.Statement.{statement}
 use Rattle.cone.proofs.raising.put_cone_as.Tie as tie
 
-cone-faces-requires : tie.Need-cone-faces-requires
-cone-faces-requires c κs = search needs
-
-mul-put : tie.Need-mul-put
-mul-put c = search needs
-
-element-copy-out-put : tie.Need-element-copy-out-put
-element-copy-out-put c = search needs
-
-cast-put : tie.Need-cast-put
-cast-put c = search needs
-
-put-requires : tie.Need-put-requires
-put-requires c κs = search needs
-
-same-length : tie.Need-same-length
-same-length c = search needs
-
 returns : tie.Need-returns
 returns c =
     let f = c .before .before .before .before .before in
@@ -31,11 +13,5 @@ returns c =
 pub put-cone-as-spec : {M : Type 1} → statement M
 put-cone-as-spec =
     tie.close
-    (tie.spec
-    cone-faces-requires
-    mul-put
-    element-copy-out-put
-    cast-put
-    put-requires
-    same-length
+    (tie.spec (λ c κs. search needs) (λ c. search needs) (λ c. search needs) (λ c. search needs) (λ c κs. search needs) (λ c. search needs)
     returns)

@@ -18,20 +18,11 @@ abbrev μ-loop : tie.MeasureT-loop
 loop-holds : tie.Need-loop-holds Inv-loop μ-loop
 loop-holds c = (search needs, raised-starts _ _ _ _ (c .before .before .pre .0))
 
-has-requires : tie.Need-has-requires Inv-loop μ-loop
-has-requires c κs = search needs
-
 put-cone-requires : tie.Need-put-cone-requires Inv-loop μ-loop
 put-cone-requires c κs =
     let l = c .before .before .before .before .loop in
     let q = c .before .before .before .before .before .before .before .pre in
     raised-coneable _ _ _ _ (q .0) (l .t) (l .s) (l .inv .1) (omega (arith, q .1 .inside)) (sym (c .before .before .has .ensures) ∙ c .before .if1 .taken)
-
-add-s : tie.Need-add-s Inv-loop μ-loop
-add-s c = search needs
-
-loop-less : tie.Need-loop-less Inv-loop μ-loop
-loop-less c = search needs
 
 loop-again : tie.Need-loop-again Inv-loop μ-loop
 loop-again c =
@@ -50,9 +41,6 @@ put-requires c κs =
     let l = c .before .before .loop in
     apex-fits _ _ _ _ (c .before .before .before .before .before .pre .0) (l .t) (l .s) (l .inv .1)
 
-same-length : tie.Need-same-length Inv-loop μ-loop
-same-length c = search needs
-
 returns : tie.Need-returns Inv-loop μ-loop
 returns c =
     let p = c .before .before .before .before .before in
@@ -63,15 +51,5 @@ returns c =
 pub raise-spec : {M : Type 1} → statement M
 raise-spec =
     tie.close
-    (tie.spec
-    Inv-loop
-    μ-loop
-    loop-holds
-    has-requires
-    put-cone-requires
-    add-s
-    loop-less
-    loop-again
-    put-requires
-    same-length
-    returns)
+    (tie.spec Inv-loop μ-loop loop-holds (λ c κs. search needs) put-cone-requires (λ c. search needs) (λ c. search needs) loop-again
+    put-requires (λ c. search needs) returns)

@@ -9,11 +9,5 @@ face-requires c κs =
     let a = c .before in
     (a .pre .0 .below (a .args .c) (a .pre .1 .0), omega (arith, a .pre .1 .1, a .pre .0 .few (a .args .c) (a .pre .1 .0)))
 
-cast-result : tie.Need-cast-result
-cast-result c = search needs
-
-returns : tie.Need-returns
-returns c = search needs
-
 pub face-spec : {M : Type 1} → statement M
-face-spec = tie.close (tie.spec face-requires cast-result returns)
+face-spec = tie.close (tie.spec face-requires (λ c. search needs) (λ c. search needs))

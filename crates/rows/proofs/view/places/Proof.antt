@@ -5,14 +5,8 @@ use Rattle.table.specs.Kind.{used}
 use Rattle.rows.proofs.view.places.Statement.{statement}
 use Rattle.rows.proofs.view.places.Tie as tie
 
-dim-requires : tie.Need-dim-requires
-dim-requires c κs = search needs
-
-used-requires : tie.Need-used-requires
-used-requires c κs = search needs
-
 returns : tie.Need-returns
 returns c = c .used .ensures .0 ∙ ap used (c .before .dim .ensures)
 
 pub places-spec : {M : Type 1} → statement M
-places-spec = tie.close (tie.spec dim-requires used-requires returns)
+places-spec = tie.close (tie.spec (λ c κs. search needs) (λ c κs. search needs) returns)

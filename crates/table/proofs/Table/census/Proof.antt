@@ -18,36 +18,12 @@ Inv-loop t n counts₀ c₀ counts c = (c ≤ n) × Tally dimensions (isCell t) 
 abbrev μ-loop : tie.MeasureT-loop
 μ-loop t n counts₀ c₀ counts c = n - c
 
-room-requires : tie.Need-room-requires Inv-loop μ-loop
-room-requires c κs = search needs
-
 loop-holds : tie.Need-loop-holds Inv-loop μ-loop
 loop-holds c = (omega arith, tally-none _ _)
-
-dim-requires : tie.Need-dim-requires Inv-loop μ-loop
-dim-requires c κs = search needs
-
-cast-p : tie.Need-cast-p Inv-loop μ-loop
-cast-p c = search needs
-
-mul-counts : tie.Need-mul-counts Inv-loop μ-loop
-mul-counts c = search needs
-
-array-read-counts : tie.Need-array-read-counts Inv-loop μ-loop
-array-read-counts c = search needs
 
 add-counts : tie.Need-add-counts Inv-loop μ-loop
 add-counts c =
     omega (arith, tally-most (c .before .before .before .loop .inv .1) (c .before .dim .result) (c .if1 .taken))
-
-array-write-counts : tie.Need-array-write-counts Inv-loop μ-loop
-array-write-counts c = search needs
-
-add-c : tie.Need-add-c Inv-loop μ-loop
-add-c c = search needs
-
-loop-less : tie.Need-loop-less Inv-loop μ-loop
-loop-less c = search needs
 
 loop-again : tie.Need-loop-again Inv-loop μ-loop
 loop-again c =
@@ -66,18 +42,5 @@ returns c = tally-listed (c .before .loop .inv .1) _ (omega arith)
 pub census-spec : {M : Type 1} → statement M
 census-spec =
     tie.close
-    (tie.spec
-    Inv-loop
-    μ-loop
-    room-requires
-    loop-holds
-    dim-requires
-    cast-p
-    mul-counts
-    array-read-counts
-    add-counts
-    array-write-counts
-    add-c
-    loop-less
-    loop-again
-    returns)
+    (tie.spec Inv-loop μ-loop (λ c κs. search needs) loop-holds (λ c κs. search needs) (λ c. search needs) (λ c. search needs)
+    (λ c. search needs) add-counts (λ c. search needs) (λ c. search needs) (λ c. search needs) loop-again returns)

@@ -6,9 +6,6 @@ use Rattle.table.proofs.Sizes.{not-whole, no-record, some-records}
 use Rattle.table.proofs.Table.fits.Statement.{statement}
 use Rattle.table.proofs.Table.fits.Tie as tie
 
-room-requires : tie.Need-room-requires
-room-requires c κs = search needs
-
 returns : tie.Need-returns
 returns c = not-whole _ (c .if1 .taken)
 
@@ -19,4 +16,4 @@ returns-3 : tie.Need-returns-3
 returns-3 c = some-records _ (omega (arith, c .before .if1 .left)) _ (c .before .before .room .ensures) (omega arith)
 
 pub fits-spec : {M : Type 1} → statement M
-fits-spec = tie.close (tie.spec room-requires returns returns-2 returns-3)
+fits-spec = tie.close (tie.spec (λ c κs. search needs) returns returns-2 returns-3)

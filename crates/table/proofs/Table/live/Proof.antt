@@ -4,12 +4,6 @@ use Rattle.table.proofs.Records.{inside-live, outside-dead}
 use Rattle.table.proofs.Table.live.Statement.{statement}
 use Rattle.table.proofs.Table.live.Tie as tie
 
-room-requires : tie.Need-room-requires
-room-requires c κs = search needs
-
-dim-requires : tie.Need-dim-requires
-dim-requires c κs = search needs
-
 returns : tie.Need-returns
 returns c = inside-live _ _ (c .dim .result) (search needs) (c .dim .ensures)
 
@@ -17,4 +11,4 @@ returns-2 : tie.Need-returns-2
 returns-2 c = outside-dead _ _ (search needs)
 
 pub live-spec : {M : Type 1} → statement M
-live-spec = tie.close (tie.spec room-requires dim-requires returns returns-2)
+live-spec = tie.close (tie.spec (λ c κs. search needs) (λ c κs. search needs) returns returns-2)

@@ -19,20 +19,8 @@ abbrev μ-loop : tie.MeasureT-loop
 loop-holds : tie.Need-loop-holds Inv-loop μ-loop
 loop-holds c = (search needs, search needs, faced-none _ _ _)
 
-mul-put-face : tie.Need-mul-put-face Inv-loop μ-loop
-mul-put-face c = search needs
-
-array-read-put-face : tie.Need-array-read-put-face Inv-loop μ-loop
-array-read-put-face c = search needs
-
 put-face-requires : tie.Need-put-face-requires Inv-loop μ-loop
 put-face-requires c κs = (omega arith, search needs)
-
-add-j : tie.Need-add-j Inv-loop μ-loop
-add-j c = search needs
-
-loop-less : tie.Need-loop-less Inv-loop μ-loop
-loop-less c = search needs
 
 loop-again : tie.Need-loop-again Inv-loop μ-loop
 loop-again c =
@@ -43,9 +31,6 @@ loop-again c =
       faced-more _ _ _ (l .t) (put .last .0) (l .j) _ refl (l .inv .2) (put .ensures),
     )
 
-same-length : tie.Need-same-length Inv-loop μ-loop
-same-length c = search needs
-
 returns : tie.Need-returns Inv-loop μ-loop
 returns c =
     let l = c .before .loop in
@@ -54,15 +39,5 @@ returns c =
 pub put-faces-spec : {M : Type 1} → statement M
 put-faces-spec =
     tie.close
-    (tie.spec
-    Inv-loop
-    μ-loop
-    loop-holds
-    mul-put-face
-    array-read-put-face
-    put-face-requires
-    add-j
-    loop-less
-    loop-again
-    same-length
-    returns)
+    (tie.spec Inv-loop μ-loop loop-holds (λ c. search needs) (λ c. search needs) put-face-requires (λ c. search needs) (λ c. search needs)
+    loop-again (λ c. search needs) returns)

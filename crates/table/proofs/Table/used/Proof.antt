@@ -9,9 +9,6 @@ use Rattle.table.proofs.Table.used.Tie as tie
 returns : tie.Need-returns
 returns c = (simp (eq-eqb _ _ (c .if1 .taken)), omega arith)
 
-add-result : tie.Need-add-result
-add-result c = search needs
-
 returns-2 : tie.Need-returns-2
 returns-2 c = (simp (ne-eqb _ _ (c .before .if1 .left), le-leb _ _ (c .if2 .taken)), omega arith)
 
@@ -19,4 +16,4 @@ returns-3 : tie.Need-returns-3
 returns-3 c = (simp (ne-eqb _ _ (c .before .if1 .left), lt-leb _ _ (c .if2 .left)), omega arith)
 
 pub used-spec : {M : Type 1} → statement M
-used-spec = tie.close (tie.spec returns add-result returns-2 returns-3)
+used-spec = tie.close (tie.spec returns (λ c. search needs) returns-2 returns-3)
