@@ -16,14 +16,13 @@ use Rattle.calls.specs.Calls.{verdict, onVerdict}
 use Rattle.calls.specs.declared.Refusal.the-variants.{NotLive, DimensionsDiffer}
 use Rattle.calls.specs.declared.Verdict.{Verdict}
 use Rattle.calls.specs.declared.Verdict.the-variants.{Accepted, Refused}
-use Rattle.table.proofs.Records.{live-true, live-says}
+use Rattle.table.proofs.Records.{live-true, live-says, live-or-not}
 use Rattle.audit.proofs.Valid.{valid-is-sound, valid-is-sized}
 use Rattle.reading.specs.declared.Sum.the-variants.{Is, NoSum}
 use Rattle.reading.specs.Sums.{sumTo, sign}
 use Rattle.reading.specs.Incidence.{incidenceOf, incidenceGrounds, incidenceAnswer}
 use Rattle.compaction.specs.Compaction.{IsCompaction}
 use Rattle.compaction.proofs.Kept.{same-cells, live-there, compaction-valid}
-use Rattle.compaction.proofs.Numbering.{live-or-not}
 use Rattle.compaction.proofs.SameHoles.{same-place}
 
 sum-below : (n : ℕ) (f g : ℕ → ℤ) → ((j : ℕ) → j < n → f j ≡ g j) → sumTo n f ≡ sumTo n g

@@ -16,10 +16,8 @@ use Rattle.calls.specs.Calls.{named, leaves, Ends}
 use Rattle.calls.specs.declared.Refusal.{Refusal}
 use Rattle.calls.specs.declared.Verdict.{Verdict}
 use Rattle.calls.specs.declared.Verdict.the-variants.{Accepted, Refused}
-use Rattle.calls.specs.declared.Named.{Named}
 use Rattle.calls.specs.declared.Named.the-variants.{Cell, NoCell}
 use Rattle.counting.proofs.Cases.{same-or-not}
-use Rattle.calls.proofs.Outcomes.{one-outcome}
 use Rattle.merge.specs.Merge.{IsIdentification, sameFaces, mergeVerdict, merged, mergeAnswer, mergeLeaves}
 use Rattle.merge.proofs.Renaming.{renamed-both-ways}
 use Rattle.merge.proofs.Verdicts.{merge-accepted}
@@ -57,7 +55,7 @@ merge-leaves-same-both-ways t a b =
 merge-keeps-valid : (t : List ℕ) (a b : ℕ) → mergeVerdict t a b ≡ Accepted → Valid (merged t a b)
 merge-keeps-valid t a b e =
     let m = merge-accepted t a b e in
-    merged-keeps-valid t a b (m .valid) (m .first) (m .second) (m .same-dim) (m .same-faces)
+    merged-keeps-valid t a b (m .pair .valid) (m .pair .first) (m .pair .second) (m .pair .same-dim) (m .same-faces)
 
 pub mergeLeaves-valid : (t : List ℕ) (a b : ℕ) → Valid t → Valid (mergeLeaves t a b)
 mergeLeaves-valid t a b valid = go (mergeVerdict t a b) refl
@@ -71,7 +69,7 @@ pub merge-accepted-leaves : (t : List ℕ) (a b : ℕ) → mergeVerdict t a b �
 merge-accepted-leaves t a b e =
     let m = merge-accepted t a b e in
     subst (IsIdentification t a b) (sym (ap (λ v. leaves v (merged t a b) t) e))
-    (merged-is-identification t a b (m .valid) (m .first) (m .second) (m .different))
+    (merged-is-identification t a b (m .pair .valid) (m .pair .first) (m .pair .second) (m .pair .different))
 
 merge-refused-leaves : (t : List ℕ) (a b : ℕ) (r : Refusal) → mergeVerdict t a b ≡ Refused r → mergeLeaves t a b ≡ t
 merge-refused-leaves t a b r e = ap (λ v. leaves v (merged t a b) t) e

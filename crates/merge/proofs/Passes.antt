@@ -6,15 +6,12 @@ use mathlib.Core.List.{List}
 use mathlib.Core.Logic.{⊎-elim}
 use Prim.Native.Nat.{ℕ, _+_, _≤_, _<_, min, max}
 use native.Mathlib.Omega.{arith}
-use borrow.Author.Count.{below-more}
 use borrow.Author.Tests.{lt-ltb, le-ltb, eq-eqb, ne-eqb}
-use lib.ListN.{length, getD, set}
-use lib.Seq.{getD-set-same, getD-set-other}
-use lib.Dec.{ltb, eqb}
+use lib.Dec.{eqb}
 use Rattle.counting.specs.Counting.{pick}
 use Rattle.table.specs.Kind.{top, faces, freeMark}
 use Rattle.table.specs.Table.{cellsOf, dim, face, Sized, Valid}
-use Rattle.table.specs.Records.{tableOf, freeRecord, Stored}
+use Rattle.table.specs.Records.{freeRecord, Stored}
 use Rattle.counting.proofs.Cases.{below-or-not}
 use Rattle.table.proofs.Words.{length-tableOf, dim-tableOf, face-tableOf, table-by-records}
 use Rattle.table.proofs.Stores.{stored-table}
@@ -22,15 +19,6 @@ use Rattle.merge.specs.Rename.{renamed, identify}
 use Rattle.merge.specs.Merge.{merged}
 use Rattle.merge.specs.Writing.{sent, sentRecord, passing, partly, Begun}
 use Rattle.merge.proofs.Renaming.{renamed-alike}
-
--- one word more of a list that is written from its start on
-pub words-more :
-    (f : ℕ → ℕ) (y : List ℕ) (l x : ℕ) → l < length y → x ≡ f l → ((k : ℕ) → k < l → getD y k 0 ≡ f k) →
-    (k : ℕ) → k < l + 1 → getD (set y l x) k 0 ≡ f k
-words-more f y l x h e done =
-    below-more (λ k. getD (set y l x) k 0 ≡ f k) l
-    (λ k m. getD-set-other y l k x 0 (λ q. omega arith) ∙ done k m)
-    (getD-set-same y l x 0 h ∙ e)
 
 -- where kept is below gone the map is that of their identification
 sent-is-identify : (kept gone : ℕ) → kept < gone → (f : ℕ) → sent kept gone f ≡ identify kept gone f

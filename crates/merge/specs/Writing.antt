@@ -1,4 +1,4 @@
--- What the steps of a merge write: where a face word goes. The call's own contract does not need this; the contracts of its parts do.
+-- What the steps of a merge ask of the two cells, and what they write: where a face word goes. The call's own contract does not need this; the contracts of its parts do.
 -- A reader need not believe this file: proofs/ ties it to Merge.antt.
 use mathlib.Core.Path.{_≡_}
 use mathlib.Core.List.{List}
@@ -6,8 +6,16 @@ use Prim.Native.Nat.{ℕ}
 use lib.ListN.{length}
 use lib.Dec.{eqb, ltb}
 use Rattle.counting.specs.Counting.{pick}
-use Rattle.table.specs.Table.{cellsOf, dim, face, Valid}
+use Rattle.table.specs.Table.{cellsOf, dim, face, Live, Valid}
 use Rattle.table.specs.Records.{Record, tableOf}
+
+-- two cells that may be joined, whatever their faces are: a weld asks no more, a merge asks for equal faces too
+pub record Joinable (t : List ℕ) (a b : ℕ) : Type 0 where
+  pub valid : Valid t
+  pub first : Live t a
+  pub second : Live t b
+  pub different : a ≡ b → ⊥
+  pub same-dim : dim t a ≡ dim t b
 
 -- a face word once the freed number goes to the kept one
 abbrev pub sent : ℕ → ℕ → ℕ → ℕ

@@ -1,14 +1,15 @@
 -- Laws of a record as it is read: when a number is a live cell, and that the seven
 -- words by value are the record's faces. What carries them: the cases of the tests. Assumes nothing.
-use mathlib.Core.Path.{_≡_, refl, ap, _∙_}
-use mathlib.Core.Bool.{Bool, true, false, _&&_, false≢true}
+use mathlib.Core.Path.{_≡_, refl, sym, ap, _∙_}
+use mathlib.Core.Bool.{true, false, false≢true}
+use mathlib.Core.Logic.{_⊎_, inl, inr, ⊎-elim}
 use mathlib.Core.List.{List}
 use Prim.Native.Nat.{ℕ, zero, suc, _≤_, _<_}
 use native.Mathlib.Omega.{arith}
 use borrow.Author.Tests.{le-leb, lt-ltb, le-ltb, leb-true, ltb-true}
 use lib.Dec.{leb, ltb}
 use lib.ListN.{getD}
-use Rattle.counting.proofs.Cases.{and-left, and-right}
+use Rattle.counting.proofs.Cases.{true-or-false, and-left, and-right}
 use Rattle.table.specs.Kind.{top, faces}
 use Rattle.table.specs.Table.{cellsOf, dim, face, facesOf, Live, live}
 
@@ -23,6 +24,11 @@ live-true t c e =
 pub live-says : (t : List ℕ) (c : ℕ) → Live t c → live t c ≡ true
 unfolding live
 live-says t c h = rw (lt-ltb c (cellsOf t) (h .inside), le-leb (dim t c) top (h .low))
+
+-- a number is a live cell, or not
+pub live-or-not : (t : List ℕ) (c : ℕ) → Live t c ⊎ (Live t c → ⊥)
+live-or-not t c =
+    ⊎-elim (λ e. inl (live-true t c e)) (λ e. inr (λ l. false≢true (sym e ∙ live-says t c l))) (true-or-false (live t c))
 
 -- the test of a cell, as the code takes it
 pub outside-dead : (t : List ℕ) (c : ℕ) → cellsOf t ≤ c → false ≡ live t c

@@ -2,49 +2,36 @@
 -- and is what the single merges leave.
 -- What carries it: the grounds are read one after the other. Assumes nothing.
 use mathlib.Core.Path.{_≡_, refl, ap, sym, subst, _∙_}
-use mathlib.Core.Bool.{true, _&&_}
-use mathlib.Core.List.{List}
+use mathlib.Core.List.{List, []}
 use Prim.Native.Nat.{ℕ, min}
-use borrow.Author.Tests.{eq-eqb, ne-eqb, eqb-true, eqb-false, not-false}
-use lib.Dec.{eqb}
-use Rattle.counting.proofs.Cases.{and-left, and-right}
-use Rattle.table.specs.Table.{dim, live, Valid, sized}
-use Rattle.audit.specs.Audit.{sound}
+use borrow.Author.Tests.{eq-eqb, ne-eqb}
+use Rattle.table.specs.Table.{dim, Valid}
 use Rattle.calls.specs.Calls.{verdict, named, leaves, Ends}
 use Rattle.calls.specs.declared.Refusal.{Refusal}
 use Rattle.calls.specs.declared.Verdict.{Verdict}
 use Rattle.calls.specs.declared.Verdict.the-variants.{Accepted, Refused}
 use Rattle.calls.specs.declared.Named.the-variants.{Cell, NoCell}
-use Rattle.calls.proofs.Grounds.{accepted-none-applies}
-use Rattle.table.proofs.Records.{live-true, live-says}
-use Rattle.audit.proofs.Valid.{sound-is-valid, valid-is-sound, valid-is-sized}
+use Rattle.table.proofs.Records.{live-says}
+use Rattle.audit.proofs.Valid.{valid-is-sound, valid-is-sized}
 use Rattle.merge.specs.Rename.{renamed}
+use Rattle.merge.specs.Writing.{Joinable}
+use Rattle.merge.proofs.Verdicts.{joinable-accepted}
 use Rattle.weld.specs.Weld.{IsWeld}
 use Rattle.weld.specs.Joins.{weldMap}
-use Rattle.weld.specs.Maps.{Weldable}
 use Rattle.weld.specs.Merges.{Merges, weldMerges}
 use Rattle.weld.specs.Call.{weldGrounds, weldVerdict, welded, weldAnswer, weldLeaves}
 use Rattle.weld.proofs.Welds.{weldMap-is-weld, weld-keeps-valid, one-welded-table}
 use Rattle.weld.proofs.Single.{weld-by-merges}
 
 module _ (t : List ℕ) (a b : ℕ) where
-  pub weld-accepted : weldVerdict t a b ≡ Accepted → Weldable t a b
+  pub weld-accepted : weldVerdict t a b ≡ Accepted → Joinable t a b
   unfolding weldVerdict
-  weld-accepted e =
-      let k = accepted-none-applies (weldGrounds t a b) e in
-      let both : (live t a && live t b) ≡ true = not-false (live t a && live t b) (k .1 .1 .0) in
-      record {
-        valid = sound-is-valid t (not-false (sized t) (k .0)) (not-false (sound t) (k .1 .0));
-        first = live-true t a (and-left (live t a) (live t b) both);
-        second = live-true t b (and-right (live t a) (live t b) both);
-        different = eqb-false a b (k .1 .1 .1 .0);
-        same-dim = eqb-true (dim t a) (dim t b) (not-false (eqb (dim t a) (dim t b)) (k .1 .1 .1 .1 .0));
-      }
+  weld-accepted e = joinable-accepted t a b [] e
 
   -- any two different live cells of one dimension in a valid table: their faces are not asked for
-  pub weldable-accepted : Weldable t a b → weldVerdict t a b ≡ Accepted
+  pub joinable-accepts : Joinable t a b → weldVerdict t a b ≡ Accepted
   unfolding weldVerdict
-  weldable-accepted m =
+  joinable-accepts m =
       let lives = live-says t a (m .first) in
       let lives-too = live-says t b (m .second) in
       let apart = ne-eqb a b (m .different) in

@@ -16,7 +16,7 @@ use Rattle.merge.proofs.Keeping.{Carries, identify-carries}
 use Rattle.merge.proofs.Verdicts.{Mergeable, merge-accepted}
 use Rattle.weld.specs.Weld.{Congruence, IsWeld}
 use Rattle.weld.specs.Call.{weldVerdict, welded, weldAnswer, weldLeaves}
-use Rattle.weld.proofs.Answers.{weldable-accepted, welded-is-renamed}
+use Rattle.weld.proofs.Answers.{joinable-accepts, welded-is-renamed}
 
 -- two numbers with one image are one, or the two that were identified
 one-image :
@@ -43,7 +43,7 @@ module _ (t : List ℕ) (a b : ℕ) (m : Mergeable t a b) where
   ρ = identify a b
 
   carries : Carries ρ t
-  carries = identify-carries t a b (m .valid) (m .first) (m .second) (m .same-dim) (m .same-faces)
+  carries = identify-carries t a b (m .pair .valid) (m .pair .first) (m .pair .second) (m .pair .same-dim) (m .same-faces)
 
   -- what holds of a pair of one cell and of the two cells holds of every pair with one image
   by-image : (P : ℕ → ℕ → Type 0) → ((c : ℕ) → P c c) → P a b → P b a → (c d : ℕ) → ρ c ≡ ρ d → P c d
@@ -63,7 +63,7 @@ module _ (t : List ℕ) (a b : ℕ) (m : Mergeable t a b) where
         turned = λ c d l k r. sym r;
         through = λ c d e l k n r s. r ∙ s;
         level = λ c d l k r.
-            by-image (λ x y. dim t x ≡ dim t y) (λ x. refl) (m .same-dim) (sym (m .same-dim)) c d r;
+            by-image (λ x y. dim t x ≡ dim t y) (λ x. refl) (m .pair .same-dim) (sym (m .pair .same-dim)) c d r;
         carried = λ c d j l k r h.
             let f : face t a j ≡ face t b j = m .same-faces j (omega (arith, used-fits (dim t c))) in
             by-image (λ x y. ρ (face t x j) ≡ ρ (face t y j)) (λ x. refl) (ap ρ f) (sym (ap ρ f)) c d r;
@@ -75,7 +75,7 @@ module _ (t : List ℕ) (a b : ℕ) (m : Mergeable t a b) where
         congruence = classes;
         joins = identify-first a b ∙ sym (identify-second a b);
         smallest = λ R g r c d l k e.
-            by-image (λ x y. Live t x → R x y) (g .itself) (λ n. r) (λ n. g .turned a b (m .first) (m .second) r) c d e l;
+            by-image (λ x y. Live t x → R x y) (g .itself) (λ n. r) (λ n. g .turned a b (m .pair .first) (m .pair .second) r) c d e l;
         lives = carries .lives;
         once = carries .once;
         down = identify-down a b;
@@ -85,16 +85,13 @@ module _ (t : List ℕ) (a b : ℕ) (m : Mergeable t a b) where
       stays :
           (c : ℕ) → (Live t c → ⊥) → (ρ c ≡ c) ⊎ (((ρ c ≡ a) × (c ≡ b)) ⊎ ((ρ c ≡ b) × (c ≡ a))) → ρ c ≡ c
       stays c n (inl e) = e
-      stays c n (inr (inl w)) = absurd (n (subst (Live t) (sym (w .1)) (m .second)))
-      stays c n (inr (inr w)) = absurd (n (subst (Live t) (sym (w .1)) (m .first)))
+      stays c n (inr (inl w)) = absurd (n (subst (Live t) (sym (w .1)) (m .pair .second)))
+      stays c n (inr (inr w)) = absurd (n (subst (Live t) (sym (w .1)) (m .pair .first)))
 
 -- where a merge is accepted
 module _ (t : List ℕ) (a b : ℕ) (e : mergeVerdict t a b ≡ Accepted) where
   merge-accepted-weld-accepted : weldVerdict t a b ≡ Accepted
-  merge-accepted-weld-accepted =
-      let m = merge-accepted t a b e in
-      weldable-accepted t a b
-      (record { valid = m .valid; first = m .first; second = m .second; different = m .different; same-dim = m .same-dim })
+  merge-accepted-weld-accepted = joinable-accepts t a b (merge-accepted t a b e .pair)
 
   welded-is-merged : welded t a b ≡ merged t a b
   unfolding merged

@@ -12,8 +12,9 @@ use Rattle.counting.specs.Counting.{pick}
 use Rattle.table.specs.Kind.{top, used}
 use Rattle.table.specs.Table.{cellsOf, dim, face, Live, Valid, isCell}
 use Rattle.table.proofs.Dimensions.{cell-live, cell-dim, cell-says, other-dimension}
+use Rattle.merge.specs.Writing.{Joinable}
 use Rattle.weld.specs.Joins.{joined, joinPlaces, joinCell, joinCells, joinLevels, weldMap}
-use Rattle.weld.specs.Maps.{mapOf, Weldable, Maps, Tied, Ready, Becomes}
+use Rattle.weld.specs.Maps.{mapOf, Maps, Tied, Ready, Becomes}
 use Rattle.weld.proofs.Joining.{joined-itself, joined-tied}
 use Rattle.weld.proofs.Sending.{map-inside}
 
@@ -202,7 +203,7 @@ levels-all t p q k₀ k h m e =
 
 -- the two cells joined, and nothing else yet
 pub pair-ready :
-    (t : List ℕ) (a b : ℕ) (k k₀ k₁ : List ℕ) → Weldable t a b → Becomes (cellsOf t) (λ κ c. c) k k₀ →
+    (t : List ℕ) (a b : ℕ) (k k₀ k₁ : List ℕ) → Joinable t a b → Becomes (cellsOf t) (λ κ c. c) k k₀ →
     Becomes (cellsOf t) (λ κ. joined κ a b) k₀ k₁ → Ready t k₁
 pair-ready t a b k k₀ k₁ w e f =
     record {

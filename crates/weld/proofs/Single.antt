@@ -20,12 +20,13 @@ use Rattle.merge.specs.Merge.{mergeVerdict, merged}
 use Rattle.merge.proofs.Renaming.{dim-fixed, face-fixed, live-after, renamed-alike, renamed-twice, identify-larger, identify-other, identify-keeps}
 use Rattle.merge.proofs.Identifying.{identify-down}
 use Rattle.merge.proofs.Keeping.{Carries, renamed-keeps-valid, renamed-stays}
+use Rattle.table.proofs.Records.{live-or-not}
 use Rattle.merge.proofs.Verdicts.{Mergeable}
 use Rattle.merge.proofs.FaceLists.{words-give-lists, equal-lists-accepted}
 use Rattle.weld.specs.Weld.{IsWeld}
 use Rattle.weld.specs.Merges.{Pair, Merges, mergesIn, mergesBelow, weldMerges}
 use Rattle.weld.specs.Merges.Merges.{done, more}
-use Rattle.weld.proofs.Welds.{live-or-not, weld-carries}
+use Rattle.weld.proofs.Welds.{weld-carries}
 
 and-off : (a b : Bool) → (a && b) ≡ false → a ≡ true → b ≡ false
 and-off true b e f = e
@@ -146,11 +147,13 @@ module _ (t : List ℕ) (κ : ℕ → ℕ) (valid : Valid t) (k : Carries κ t)
     mergeable =
         let i : κ c < cellsOf t = k .lives c l .inside in
         record {
-          valid = renamed-keeps-valid so-far t valid (part-carries (q * capacity + c));
-          first = live-after so-far t (κ c) (k .lives c l) kept-there;
-          second = live-after so-far t c l still-there;
-          different = moved;
-          same-dim = dim-fixed so-far t (κ c) i kept-there ∙ k .same-dim c l ∙ sym (dim-fixed so-far t c (l .inside) still-there);
+          pair = record {
+            valid = renamed-keeps-valid so-far t valid (part-carries (q * capacity + c));
+            first = live-after so-far t (κ c) (k .lives c l) kept-there;
+            second = live-after so-far t c l still-there;
+            different = moved;
+            same-dim = dim-fixed so-far t (κ c) i kept-there ∙ k .same-dim c l ∙ sym (dim-fixed so-far t c (l .inside) still-there);
+          };
           same-faces = λ j h.
               face-fixed so-far t (κ c) j i h kept-there ∙ same-words j h ∙ sym (face-fixed so-far t c j (l .inside) h still-there);
         }
@@ -158,8 +161,8 @@ module _ (t : List ℕ) (κ : ℕ → ℕ) (valid : Valid t) (k : Carries κ t)
     accepted : mergeVerdict (renamed so-far t) (κ c) c ≡ Accepted
     accepted =
         let m = mergeable in
-        equal-lists-accepted (renamed so-far t) (κ c) c (m .valid) (m .first) (m .second) (m .different) (m .same-dim)
-        (words-give-lists (renamed so-far t) (κ c) c (m .same-dim) (m .same-faces))
+        equal-lists-accepted (renamed so-far t) (κ c) c (m .pair .valid) (m .pair .first) (m .pair .second) (m .pair .different) (m .pair .same-dim)
+        (words-give-lists (renamed so-far t) (κ c) c (m .pair .same-dim) (m .same-faces))
 
     larger : c ≡ max (κ c) c
     larger = omega (arith, down c)

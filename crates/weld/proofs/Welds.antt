@@ -2,15 +2,13 @@
 -- smaller number, and nothing else of that dimension or above moves.
 -- What carries it: the map's classes are a congruence, and each of two smallest ones lies in the other. Assumes nothing.
 use mathlib.Core.Path.{_≡_, refl, ap, sym, subst, _∙_}
-use mathlib.Core.Bool.{false≢true}
 use mathlib.Core.List.{List}
-use mathlib.Core.Logic.{_⊎_, inl, inr, ⊎-elim}
+use mathlib.Core.Logic.{_⊎_, ⊎-elim}
 use Prim.Native.Nat.{ℕ, _≤_, _<_, min}
 use native.Mathlib.Omega.{arith}
 use Rattle.table.specs.Kind.{used, freeMark}
-use Rattle.table.specs.Table.{dim, face, Live, live, Valid}
-use Rattle.counting.proofs.Cases.{true-or-false}
-use Rattle.table.proofs.Records.{live-true, live-says}
+use Rattle.table.specs.Table.{dim, face, Live, Valid}
+use Rattle.table.proofs.Records.{live-or-not}
 use Rattle.table.proofs.Places.{used-says}
 use Rattle.merge.specs.Rename.{renamed, identify}
 use Rattle.merge.proofs.Renaming.{renamed-alike}
@@ -20,11 +18,6 @@ use Rattle.weld.specs.Weld.{Congruence, IsWeld}
 use Rattle.weld.specs.Joins.{joined, weldMap}
 use Rattle.weld.proofs.Joining.{Sound, joined-joins, joined-sound, joined-after}
 use Rattle.weld.proofs.Levels.{Complete, Levelled, levels}
-
--- a number is a live cell, or not
-pub live-or-not : (t : List ℕ) (c : ℕ) → Live t c ⊎ (Live t c → ⊥)
-live-or-not t c =
-    ⊎-elim (λ e. inl (live-true t c e)) (λ e. inr (λ l. false≢true (sym e ∙ live-says t c l))) (true-or-false (live t c))
 
 mark-not-live : (t : List ℕ) → Valid t → Live t freeMark → ⊥
 mark-not-live t v l = omega (arith, l .inside, v .sized .room)

@@ -19,14 +19,6 @@ mapOf n k c = pick (ltb c n) (getD k c 0) c
 abbrev pub heldBy : List ℕ → List ℕ → ℕ → ℕ
 heldBy k t = mapOf (cellsOf t) k
 
--- what a weld asks of its two cells
-pub record Weldable (t : List ℕ) (a b : ℕ) : Type 0 where
-  pub valid : Valid t
-  pub first : Live t a
-  pub second : Live t b
-  pub different : a ≡ b → ⊥
-  pub same-dim : dim t a ≡ dim t b
-
 -- the words below n are there, and are numbers below n
 pub record Maps (n : ℕ) (k : List ℕ) : Type 0 where
   pub size : n ≤ length k

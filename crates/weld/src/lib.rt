@@ -8,9 +8,9 @@ ghost use Rattle.table.specs.Table.{cellsOf, dim as dimOf, Live, Valid};
 ghost use Rattle.table.specs.Records.{Stored};
 ghost use Rattle.calls.specs.Calls.{verdict, Ends};
 ghost use Rattle.merge.specs.Rename.{renamed};
-ghost use Rattle.merge.specs.Writing.{sent as sentTo};
+ghost use Rattle.merge.specs.Writing.{Joinable, sent as sentTo};
 ghost use Rattle.weld.specs.Joins.{joined, joinFaces, joinCell, joinLevel, joinLevels, weldMap};
-ghost use Rattle.weld.specs.Maps.{heldBy, Maps, Weldable, Ready, Becomes, Sent, Renamable, renamedRecord};
+ghost use Rattle.weld.specs.Maps.{heldBy, Maps, Ready, Becomes, Sent, Renamable, renamedRecord};
 ghost use Rattle.weld.specs.Call.{weldAnswer, weldLeaves};
 use calls::Named;
 use calls::Verdict;
@@ -122,7 +122,7 @@ fn own(k: &mut [u16], n: usize)
 
 // Fills the words with the map of the weld of a and b.
 fn classes(t: &[u16], k: &mut [u16], a: usize, b: usize)
-    requires { ⌜ (Weldable (now t) a b) × (cellsOf (now t) ≤ length (now k)) ⌝ }
+    requires { ⌜ (Joinable (now t) a b) × (cellsOf (now t) ≤ length (now k)) ⌝ }
     ensures { λ _. ⌜ Becomes (cellsOf (now (t .entry))) (λ κ. weldMap (now (t .entry)) a b) (now (k .entry)) (now (k .exit)) ⌝ }
 {
     let n = Table::room(t);
@@ -186,7 +186,7 @@ fn rename_all(t: &mut [u16], k: &[u16])
 
 // Welds two live cells of one dimension: their classes on the words, then one pass over the records.
 fn glue_on(t: &mut [u16], k: &mut [u16], a: usize, b: usize)
-    requires { ⌜ (Weldable (now t) a b) × (cellsOf (now t) ≤ length (now k)) ⌝ }
+    requires { ⌜ (Joinable (now t) a b) × (cellsOf (now t) ≤ length (now k)) ⌝ }
     ensures { λ _. ⌜ now (t .exit) ≡ renamed (weldMap (now (t .entry)) a b) (now (t .entry)) ⌝ }
 {
     classes(t, k, a, b);
@@ -199,7 +199,7 @@ const FEW: usize = 64;
 // The same on words of its own: 1 KB of stack, set to 0 before it is used, or an eighth of that where it does, since a small table is
 // welded in less time than the whole takes to set.
 fn glue(t: &mut [u16], a: usize, b: usize)
-    requires { ⌜ Weldable (now t) a b ⌝ }
+    requires { ⌜ Joinable (now t) a b ⌝ }
     ensures { λ _. ⌜ now (t .exit) ≡ renamed (weldMap (now (t .entry)) a b) (now (t .entry)) ⌝ }
 {
     if Table::room(t) <= FEW {

@@ -23,7 +23,7 @@ mergeable c = merge-accepted _ _ _ (accepted c)
 join-requires : tie.Need-join-requires
 join-requires c κs =
     let m = mergeable (c .before .before) in
-    (c .before .if1 .taken, m .second .inside, m .valid)
+    (c .before .if1 .taken, m .pair .second .inside, m .pair .valid)
 
 returns : tie.Need-returns
 returns c =
@@ -33,7 +33,7 @@ returns c =
 join-requires-2 : tie.Need-join-requires-2
 join-requires-2 c κs =
     let m = mergeable (c .before .before) in
-    (omega (arith, c .before .if1 .left, m .different), m .first .inside, m .valid)
+    (omega (arith, c .before .if1 .left, m .pair .different), m .pair .first .inside, m .pair .valid)
 
 returns-2 : tie.Need-returns-2
 returns-2 c = ends-refused _ _ _ _ (sym (c .before .before .before .verdict-of .ensures) ∙ c .before .found .given .1)

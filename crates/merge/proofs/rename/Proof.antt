@@ -11,7 +11,8 @@ use Rattle.table.specs.Table.{face}
 use Rattle.table.proofs.Records.{faces-at}
 use Rattle.table.proofs.Stores.{stored-alike}
 use Rattle.merge.specs.Writing.{sent}
-use Rattle.merge.proofs.Passes.{words-more, sent-stays}
+use Rattle.counting.proofs.Places.{words-more}
+use Rattle.merge.proofs.Passes.{sent-stays}
 use Rattle.merge.proofs.rename.Statement.{statement}
 use Rattle.merge.proofs.rename.Tie as tie
 

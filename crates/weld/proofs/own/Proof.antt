@@ -5,7 +5,7 @@ use Prim.Native.Nat.{ℕ, _-_, _≤_, _<_}
 use native.Mathlib.Omega.{arith}
 use borrow.Author.Count.{below-none}
 use lib.ListN.{length, getD, length-set}
-use Rattle.merge.proofs.Passes.{words-more}
+use Rattle.counting.proofs.Places.{words-more}
 use Rattle.weld.proofs.Writing.{own-all}
 use Rattle.weld.proofs.own.Statement.{statement}
 use Rattle.weld.proofs.own.Tie as tie
