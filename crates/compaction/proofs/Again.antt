@@ -10,7 +10,7 @@ use Rattle.table.specs.Table.{dim, face, Live, live, Valid}
 use Rattle.counting.proofs.Cases.{below-or-not, not-true-false}
 use Rattle.table.proofs.Records.{live-true, live-says}
 use Rattle.table.proofs.Places.{used-says}
-use Rattle.compaction.specs.Compaction.{Before, Taken, IsNumbering, IsCompaction}
+use Rattle.compaction.specs.Compaction.{Precedes, Taken, IsNumbering, IsCompaction}
 use Rattle.compaction.specs.Made.{newNumber, compacted}
 use Rattle.compaction.proofs.Determines.{one-list, one-compaction, compacted-is-compaction}
 use Rattle.compaction.proofs.Kept.{live-there, live-from, compaction-valid}
@@ -49,7 +49,7 @@ module _ (t : List ℕ) (valid : Valid t) (n : IsNumbering t (stays t)) where
 
 -- What a compaction leaves is such a table.
 module _ (t : List ℕ) (ν : ℕ → ℕ) (u : List ℕ) (valid : Valid t) (x : IsCompaction t ν u) where
-  in-order : (i k : ℕ) → Live u i → Live u k → Before u i k → i < k
+  in-order : (i k : ℕ) → Live u i → Live u k → Precedes u i k → i < k
   in-order i k v w (inr h) = h .1
   in-order i k v w (inl h) =
       let a = live-from t ν u valid x i v in

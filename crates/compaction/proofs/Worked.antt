@@ -3,12 +3,10 @@
 use mathlib.Core.Path.{_≡_, refl}
 use mathlib.Core.List.{List, [], _∷_, _++_}
 use Prim.Native.Nat.{ℕ}
-use Rattle.counting.specs.Counting.{howMany, nth, listed}
+use Rattle.counting.specs.Counting.{howMany, nth, listed, total}
 use Rattle.table.specs.Kind.{freeMark}
-use Rattle.table.specs.Table.{live, isCell}
+use Rattle.table.specs.Table.{live, isCell, countOf}
 use Rattle.table.specs.Records.{wordOf, tableOf}
-use Rattle.sketch.specs.Form.{total}
-use Rattle.sketch.specs.Written.{countOf}
 use Rattle.compaction.specs.Made.{newNumber, newNumbers, oldNumber, newRecord, compacted}
 
 abbrev blank : List ℕ

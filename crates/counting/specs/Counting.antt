@@ -1,4 +1,4 @@
--- Choosing by a test, testing and counting the numbers that have a property, picking the k-th of them, and lists given place by place.
+-- Choosing by a test, testing and counting the numbers that have a property, picking the k-th of them, sums, and lists given place by place.
 -- A reader must believe these definitions; nothing here is proved.
 use mathlib.Core.Bool.{Bool, true, false, _&&_, _||_, not}
 use mathlib.Core.List.{List, [], _∷_}
@@ -14,6 +14,11 @@ pick false a b = b
 unfoldable pub howMany : (ℕ → Bool) → ℕ → ℕ
 howMany f zero = 0
 howMany f (suc n) = howMany f n + pick (f n) 1 0
+
+-- f 0 + f 1 + .. + f (n − 1)
+unfoldable pub total : (ℕ → ℕ) → ℕ → ℕ
+total f zero = 0
+total f (suc n) = total f n + f n
 
 -- the number below n that has f and has k numbers with f below it; n where there is none
 unfoldable pub nth : (ℕ → Bool) → ℕ → ℕ → ℕ

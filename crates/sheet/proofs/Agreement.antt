@@ -9,15 +9,15 @@ use Prim.Native.Nat.{ℕ, _≤_, _<_}
 use native.Mathlib.Omega.{arith}
 use borrow.Author.Tests.{eqb-true}
 use lib.Dec.{eqb}
-use Rattle.counting.specs.Counting.{howMany, nth, pick}
+use Rattle.counting.specs.Counting.{howMany, nth, pick, total}
 use Rattle.counting.proofs.Cases.{below-or-not}
 use Rattle.counting.proofs.Counting.{nth-below, nth-has, nth-rising}
 use Rattle.table.specs.Kind.{used}
 use Rattle.table.specs.Table.{cellsOf, dim, face, isCell}
 use Rattle.table.proofs.Dimensions.{cell-live, cell-dim}
-use Rattle.sheet.specs.Sheet.{hasFace, places, total, wings, SheetBy, IsSheet}
+use Rattle.sheet.specs.Sheet.{hasFace, places, wings, SheetBy, IsSheet}
 use Rattle.sheet.specs.OldSheet.{oldWings, IsOldSheet, NoRepeats}
-use Rattle.sheet.proofs.Totals.{total-alike, total-below, count-is-total}
+use Rattle.counting.proofs.Totals.{total-cong, total-less, count-is-total}
 use Rattle.sheet.proofs.Wings.{face-placed, no-face-no-place}
 
 -- a property that no two numbers below n share is counted once at most
@@ -57,7 +57,7 @@ module _ (t : List ℕ) (n : ℕ) where
   old-below-new : (u : ℕ) → oldWings t n u ≤ wings t n u
   unfolding wings
   old-below-new u =
-      omega (arith, old-total u, total-below (oldWing u) (newWing u) (cellsOf t) (λ c l. no-fewer (isCell t n c) (hasFace t c u) (places t c u) (face-placed t c u)))
+      omega (arith, old-total u, total-less (oldWing u) (newWing u) (cellsOf t) (λ c l. no-fewer (isCell t n c) (hasFace t c u) (places t c u) (face-placed t c u)))
 
   -- and as many where no n-cell repeats a face
   module _ (apart : NoRepeats t n) where
@@ -72,7 +72,7 @@ module _ (t : List ℕ) (n : ℕ) where
     unfolding wings
     old-is-new u =
         old-total u
-        ∙ total-alike (oldWing u) (newWing u) (cellsOf t)
+        ∙ total-cong (oldWing u) (newWing u) (cellsOf t)
         (λ c l. as-many (isCell t n c) (hasFace t c u) (places t c u) (face-placed t c u) (no-face-no-place t c u) (one-place u c))
 
   -- a sheet stays one where every cell has fewer wings or as many

@@ -17,7 +17,7 @@ use Rattle.table.specs.Table.{cellsOf, dim, face, Live, Valid}
 use Rattle.table.proofs.Places.{used-says}
 use Rattle.sheet.specs.Sheet.{places}
 use Rattle.sheet.specs.Sides.{sidesBelow, Told, Counted}
-use Rattle.sheet.proofs.Totals.{total-zero, total-more, total-mono}
+use Rattle.counting.proofs.Totals.{total-zero, total-more, total-grows}
 
 -- whether place l of c names u
 abbrev names : List ℕ → ℕ → ℕ → ℕ → Bool
@@ -39,7 +39,7 @@ module _ (t : List ℕ) where
 
   sides-grow : (u c : ℕ) → c < cellsOf t → sidesBelow t u (c + 1) ≤ sidesBelow t u (cellsOf t)
   unfolding sidesBelow
-  sides-grow u c h = total-mono (λ s. places t s u) (c + 1) (cellsOf t) (omega arith)
+  sides-grow u c h = total-grows (λ s. places t s u) (c + 1) (cellsOf t) (omega arith)
 
 -- A counter after one more place that names its cell: counted, or marked where it isn't counted; and one that stays.
 module _ (l p k s s′ : ℕ) (h : Told l p k s) where

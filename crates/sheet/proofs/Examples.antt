@@ -3,11 +3,11 @@
 use mathlib.Core.Path.{_≡_, refl}
 use mathlib.Core.List.{List, [], _∷_}
 use Prim.Native.Nat.{ℕ}
-use Rattle.counting.specs.Counting.{all, howMany, someHas}
+use Rattle.counting.specs.Counting.{all, howMany, someHas, total}
 use Rattle.table.specs.Kind.{freeMark}
 use Rattle.table.specs.Table.{sized, live, isCell}
 use Rattle.audit.specs.Audit.{scan, recordSound, faceSound, lawSound, recordBreach, faceBreach, lawBreach, cellBreach, firstBreach, sound}
-use Rattle.sheet.specs.Sheet.{hasFace, places, total, wings, largestBelow, largestDim, covered, isSheet, sheetAnswer}
+use Rattle.sheet.specs.Sheet.{hasFace, places, wings, largestBelow, largestDim, covered, isSheet, sheetAnswer}
 use Rattle.sheet.specs.OldSheet.{oldWings}
 use Rattle.sheet.specs.declared.Judged.the-variants.{Yes, No}
 

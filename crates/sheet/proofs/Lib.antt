@@ -1,7 +1,6 @@
 pub mod Dimensions
 pub mod Over
 pub mod Sheets
-pub mod Totals
 pub mod Wings
 pub mod Agreement
 pub mod Counters

@@ -16,7 +16,7 @@ use Rattle.table.proofs.Dimensions.{cell-says}
 use Rattle.sheet.specs.Sheet.{hasFace, places, wings, covered}
 use Rattle.sheet.specs.Sides.{sidesBelow}
 use Rattle.sheet.proofs.Over.{side-live, side-dim, over-by, over-has, covered-over, over-covered}
-use Rattle.sheet.proofs.Totals.{total-alike, total-at, total-some}
+use Rattle.counting.proofs.Totals.{total-cong, total-at, total-some}
 
 module _ (t : List ℕ) where
   -- a cell names u at some place exactly where it has u as a face
@@ -50,7 +50,7 @@ module _ (t : List ℕ) where
   pub wings-are-sides : Valid t → (n u : ℕ) → n ≡ suc (dim t u) → wings t n u ≡ sidesBelow t u (cellsOf t)
   unfolding wings sidesBelow
   wings-are-sides v n u e =
-      total-alike (λ c. pick (isCell t n c) (places t c u) 0) (λ c. places t c u) (cellsOf t) (λ c h. wing-is-side v n u c h e)
+      total-cong (λ c. pick (isCell t n c) (places t c u) 0) (λ c. places t c u) (cellsOf t) (λ c h. wing-is-side v n u c h e)
 
   -- a cell has sides exactly where it is covered
   pub covered-sides : (u : ℕ) → covered t u ≡ true → 1 ≤ sidesBelow t u (cellsOf t)

@@ -4,9 +4,9 @@
 use mathlib.Core.Path.{_≡_}
 use mathlib.Core.Bool.{Bool, _&&_, _||_, not}
 use mathlib.Core.List.{List}
-use Prim.Native.Nat.{ℕ, zero, suc, max, _+_, _≤_, _<_}
+use Prim.Native.Nat.{ℕ, zero, suc, max, _≤_, _<_}
 use lib.Dec.{eqb, leb}
-use Rattle.counting.specs.Counting.{howMany, someHas, pick, all}
+use Rattle.counting.specs.Counting.{howMany, someHas, total, pick, all}
 use Rattle.table.specs.Kind.{used}
 use Rattle.table.specs.Table.{cellsOf, dim, face, Live, live, isCell}
 use Rattle.audit.specs.Audit.{auditGrounds}
@@ -26,11 +26,6 @@ hasFace t c u = someHas (λ j. eqb (face t c j) u) (used (dim t c))
 -- how many places of c name u
 unfoldable pub places : List ℕ → ℕ → ℕ → ℕ
 places t c u = howMany (λ j. eqb (face t c j) u) (used (dim t c))
-
--- f 0 + f 1 + .. + f (m − 1)
-unfoldable pub total : (ℕ → ℕ) → ℕ → ℕ
-total f zero = 0
-total f (suc m) = total f m + f m
 
 -- how many pairs of an n-cell and a place of it name u
 unfoldable pub wings : List ℕ → ℕ → ℕ → ℕ

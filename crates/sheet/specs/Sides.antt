@@ -6,10 +6,10 @@ use mathlib.Core.List.{List}
 use Prim.Native.Nat.{ℕ, zero, suc, max, _+_, _≤_, _<_}
 use lib.ListN.{length, getD}
 use lib.Dec.{eqb, ltb}
-use Rattle.counting.specs.Counting.{pick, all}
+use Rattle.counting.specs.Counting.{total, pick, all}
 use Rattle.table.specs.Kind.{top}
 use Rattle.table.specs.Table.{cellsOf, dim, Live, live}
-use Rattle.sheet.specs.Sheet.{places, total}
+use Rattle.sheet.specs.Sheet.{places}
 
 -- the level of a record with word 0 p: one more than its dimension, or 0 where it is free
 abbrev pub levelOf : ℕ → ℕ

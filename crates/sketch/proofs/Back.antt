@@ -7,9 +7,9 @@ use Prim.Native.Nat.{ℕ, _<_}
 use native.Mathlib.Omega.{arith}
 use lib.ListN.{getD}
 use Rattle.table.specs.Kind.{used, dimensions}
-use Rattle.table.specs.Table.{cellsOf, dim, face, isCell}
+use Rattle.table.specs.Table.{cellsOf, dim, face, isCell, countOf}
 use Rattle.counting.specs.Counting.{howMany, nth}
-use Rattle.sketch.specs.Written.{countOf, fileOf}
+use Rattle.sketch.specs.Written.{fileOf}
 use Rattle.sketch.specs.Read.{countIn, numberIn, faceIn, described}
 use Rattle.sketch.proofs.Parts.{layout-cong}
 use Rattle.sketch.proofs.Laid.{laid-layout}

@@ -4,12 +4,12 @@ use mathlib.Core.Path.{_≡_, ap, _∙_}
 use mathlib.Core.Bool.{true}
 use mathlib.Core.List.{List, _++_}
 use Prim.Native.Nat.{ℕ, _<_}
-use Rattle.table.specs.Table.{cellsOf, dim, face, isCell}
+use Rattle.table.specs.Table.{cellsOf, dim, face, isCell, countOf}
 use Rattle.counting.specs.Counting.{nth}
 use Rattle.counting.proofs.Counting.{nth-has}
 use Rattle.table.proofs.Dimensions.{cell-dim}
 use Rattle.table.specs.Kind.{dimensions}
-use Rattle.sketch.specs.Written.{countOf, cellBytes, bodyOf, contentsOf, fileOf}
+use Rattle.sketch.specs.Written.{cellBytes, bodyOf, contentsOf, fileOf}
 use Rattle.sketch.proofs.Pieces.{pieces-cong}
 use Rattle.sketch.proofs.Picked.{pieces-picked}
 use Rattle.sketch.proofs.Parts.{recordBytes, bodyBytes, bodiesBytes, contentsBytes, layout}

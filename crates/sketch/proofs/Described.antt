@@ -7,12 +7,12 @@ use mathlib.Core.Logic.{⊎-elim}
 use Prim.Native.Nat.{ℕ, _*_, _≤_, _<_}
 use native.Mathlib.Omega.{arith}
 use borrow.Author.Tests.{lt-ltb, le-ltb}
-use lib.ListN.{length, getD, List·getD-eq-default}
+use lib.ListN.{length, getD}
 use lib.Dec.{ltb}
 use Rattle.table.specs.Kind.{capacity, width, faces, freeMark, used, dimensions}
 use Rattle.table.specs.Table.{cellsOf, dim, face, Sized}
 use Rattle.table.specs.Records.{recordAt, Alike}
-use Rattle.table.proofs.Words.{length-tableOf, cellsOf-tableOf, record-tableOf, each-word}
+use Rattle.table.proofs.Words.{length-tableOf, cellsOf-tableOf, record-tableOf}
 use Rattle.counting.specs.Counting.{howMany, nth, someHas, pick}
 use Rattle.counting.proofs.Cases.{below-or-not}
 use Rattle.counting.proofs.Counting.{nth-below, nth-none}

@@ -4,12 +4,12 @@ use mathlib.Core.Path.{_≡_, refl}
 use mathlib.Core.Bool.{true}
 use mathlib.Core.List.{List, [], _∷_, _++_}
 use Prim.Native.Nat.{ℕ}
-use Rattle.counting.specs.Counting.{howMany, nth, someHas, listed, all}
+use Rattle.counting.specs.Counting.{howMany, nth, someHas, listed, all, total}
 use Rattle.table.specs.Kind.{freeMark}
-use Rattle.table.specs.Table.{live, isCell}
+use Rattle.table.specs.Table.{live, isCell, countOf}
 use Rattle.table.specs.Records.{wordOf, tableOf}
-use Rattle.sketch.specs.Form.{two, four, twoAt, fourAt, total, pieces, bodyStart}
-use Rattle.sketch.specs.Written.{countOf, cellBytes, bodyOf, contentsOf, fileOf}
+use Rattle.sketch.specs.Form.{two, four, twoAt, fourAt, pieces, bodyStart}
+use Rattle.sketch.specs.Written.{cellBytes, bodyOf, contentsOf, fileOf}
 use Rattle.sketch.specs.Read.{countIn, recordIn, numberIn, faceIn, contentsFit, inBody, numberFits, numbersFit, dimIn, placeIn, described}
 
 -- point 0, edge 1 (0, 0)

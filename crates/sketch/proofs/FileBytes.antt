@@ -10,10 +10,10 @@ use lib.ListN.{length, getD, List·getD-append}
 use lib.Seq.{getD-append-add}
 use Rattle.counting.specs.Counting.{pick}
 use Rattle.table.specs.Kind.{used, dimensions}
-use Rattle.table.specs.Table.{cellsOf, dim, face, isCell}
+use Rattle.table.specs.Table.{cellsOf, dim, face, isCell, countOf}
 use Rattle.counting.proofs.Cases.{below-or-not}
 use Rattle.sketch.specs.Form.{two, four, pieces, bodyStart}
-use Rattle.sketch.specs.Written.{countOf, cellBytes, bodyOf, contentsOf, fileOf}
+use Rattle.sketch.specs.Written.{cellBytes, bodyOf, contentsOf}
 use Rattle.sketch.proofs.Bytes.{two-small, four-small}
 use Rattle.sketch.proofs.Pieces.{pieces-zero, pieces-suc}
 

@@ -10,13 +10,14 @@ use lib.ListN.{length}
 use Rattle.counting.specs.Counting.{howMany}
 use Rattle.counting.proofs.Counting.{howMany-zero, howMany-yes}
 use Rattle.table.specs.Kind.{capacity, top, dimensions}
-use Rattle.table.specs.Table.{cellsOf, Sized, isCell}
+use Rattle.table.specs.Table.{cellsOf, isCell, countOf}
 use Rattle.calls.specs.declared.Verdict.the-variants.{Accepted}
 use Rattle.sketch.specs.Form.{longest}
-use Rattle.sketch.specs.Written.{countOf, fileOf}
+use Rattle.sketch.specs.Written.{fileOf}
 use Rattle.sketch.specs.Read.{countIn, described, readVerdict}
 use Rattle.sketch.proofs.Parts.{bodyStart-cong}
-use Rattle.sketch.proofs.Sizes.{bodyStart-suc, bodyStart-least, bodyStart-most, length-file, counts-fit, start-fits}
+use Rattle.table.proofs.Dimensions.{counts-fit}
+use Rattle.sketch.proofs.Sizes.{bodyStart-suc, bodyStart-least, bodyStart-most, length-file, start-fits}
 use Rattle.sketch.proofs.Back.{back-count}
 use Rattle.sketch.proofs.Accepted.{accepted-says}
 

@@ -9,7 +9,8 @@ use lib.ListN.{length, length-append}
 use Rattle.table.specs.Kind.{used, dimensions}
 use Rattle.sketch.specs.Form.{two, four, pieces, entrySize, contentsSize, countPlace, offsetPlace, recordSize, facePlace, bodyStart}
 use Rattle.sketch.proofs.Bytes.{length-two, length-four}
-use Rattle.sketch.proofs.Pieces.{total-cong, length-pieces, length-even, pieces-cong}
+use Rattle.counting.proofs.Totals.{total-cong}
+use Rattle.sketch.proofs.Pieces.{length-pieces, length-even, pieces-cong}
 use Rattle.sketch.proofs.Stands.{Stands}
 
 -- a record of dimension p, a body, an entry of the contents

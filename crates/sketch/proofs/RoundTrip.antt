@@ -5,13 +5,12 @@ use mathlib.Core.Path.{_≡_, ap, ap₂, sym, subst, _∙_}
 use mathlib.Core.Bool.{true}
 use mathlib.Core.List.{List}
 use mathlib.Core.Logic.{⊎-elim, _↔_}
-use Prim.Native.Nat.{ℕ, _≤_, _<_}
+use Prim.Native.Nat.{ℕ, _<_}
 use native.Mathlib.Omega.{arith}
-use lib.ListN.{length, getD, replicate, List·getD-eq-default}
+use lib.ListN.{length, getD, replicate}
 use lib.Dec.{eqb}
 use Rattle.counting.specs.Counting.{pick}
 use Rattle.table.specs.Kind.{faces, freeMark, used}
-use Rattle.table.proofs.Words.{each-word}
 use Rattle.table.specs.Table.{cellsOf, dim, face, Sized, Valid}
 use Rattle.audit.specs.Audit.{sound}
 use Rattle.calls.specs.Calls.{onVerdict}

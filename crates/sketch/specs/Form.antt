@@ -3,6 +3,7 @@
 use mathlib.Core.List.{List, [], _∷_, _++_}
 use Prim.Native.Nat.{ℕ, zero, suc, _+_, _*_, _/_, _%_}
 use lib.ListN.{getD}
+use Rattle.counting.specs.Counting.{total}
 use Rattle.table.specs.Kind.{capacity, top, dimensions, used}
 
 -- a number in 2 bytes and in 4, the low byte first
@@ -18,11 +19,6 @@ twoAt f i = getD f i 0 + getD f (i + 1) 0 * 256
 
 unfoldable pub fourAt : List ℕ → ℕ → ℕ
 fourAt f i = getD f i 0 + getD f (i + 1) 0 * 256 + getD f (i + 2) 0 * 65536 + getD f (i + 3) 0 * 16777216
-
--- f 0 + f 1 + .. + f (n − 1)
-unfoldable pub total : (ℕ → ℕ) → ℕ → ℕ
-total f zero = 0
-total f (suc n) = total f n + f n
 
 -- f 0, f 1, .., f (n − 1), one after the other
 unfoldable pub pieces : (ℕ → List ℕ) → ℕ → List ℕ

@@ -4,18 +4,14 @@ use mathlib.Core.List.{List, [], _∷_, _++_}
 use Prim.Native.Nat.{ℕ, _+_}
 use lib.ListN.{length, drop}
 use lib.Dec.{ltb}
-use Rattle.counting.specs.Counting.{howMany, pick}
+use Rattle.counting.specs.Counting.{pick}
 use Rattle.table.specs.Kind.{used, dimensions}
-use Rattle.table.specs.Table.{cellsOf, dim, face, isCell}
+use Rattle.table.specs.Table.{cellsOf, dim, face, isCell, countOf}
 use Rattle.audit.specs.Audit.{grounds}
 use Rattle.calls.specs.Calls.{Ground, verdict}
 use Rattle.calls.specs.declared.Refusal.the-variants.{NoRoom}
 use Rattle.calls.specs.declared.Verdict.{Verdict}
 use Rattle.sketch.specs.Form.{two, four, pieces, bodyStart}
-
--- the number of live p-cells
-unfoldable pub countOf : List ℕ → ℕ → ℕ
-countOf t p = howMany (isCell t p) (cellsOf t)
 
 -- the record of cell c: its number, then its faces
 unfoldable pub cellBytes : List ℕ → ℕ → List ℕ

@@ -8,9 +8,11 @@ use native.Mathlib.Omega.{arith}
 use borrow.Author.Tests.{eq-eqb, ne-eqb, eqb-true}
 use lib.Dec.{eqb}
 use lib.ListN.{getD, set}
+use Rattle.counting.specs.Counting.{total}
 use Rattle.counting.proofs.Cases.{and-left, and-right}
+use Rattle.counting.proofs.Totals.{counts-together}
 use Rattle.counting.proofs.Tallies.{Tally, tally-skipped, tally-counted}
-use Rattle.table.specs.Table.{dim, live, Live, isCell}
+use Rattle.table.specs.Table.{cellsOf, dim, live, Live, isCell, countOf}
 use Rattle.table.proofs.Records.{live-says, live-true}
 
 -- a live p-cell is a live cell of dimension p
@@ -26,6 +28,11 @@ module _ (t : List ℕ) (p c : ℕ) where
   pub cell-says : Live t c → dim t c ≡ p → isCell t p c ≡ true
   unfolding isCell
   cell-says h e = rw (live-says t c h, eq-eqb (dim t c) p e)
+
+-- a cell is counted in one dimension at most, so the counts together are at most N
+pub counts-fit : (t : List ℕ) (p : ℕ) → total (countOf t) p ≤ cellsOf t
+unfolding countOf
+counts-fit t p = counts-together (isCell t) (dim t) (cell-dim t) (cellsOf t) p
 
 module _ (t : List ℕ) (c : ℕ) where
   pub other-dimension : (p : ℕ) → (dim t c ≡ p → ⊥) → isCell t p c ≡ false

@@ -8,6 +8,7 @@ use mathlib.Core.List.{List, [], _∷_}
 use Prim.Native.Nat.{ℕ, suc, _+_, _-_, _*_, _/_, _%_, _≤_, _<_}
 use lib.ListN.{length, getD}
 use lib.Dec.{leb, ltb, eqb}
+use Rattle.counting.specs.Counting.{howMany}
 use Rattle.calls.specs.Calls.{Ground}
 use Rattle.calls.specs.declared.Refusal.the-variants.{Length}
 use Rattle.table.specs.Kind.{capacity, top, faces, width, freeMark, used}
@@ -57,6 +58,10 @@ live t c = ltb c (cellsOf t) && leb (dim t c) top
 -- whether c is a live p-cell
 unfoldable pub isCell : List ℕ → ℕ → ℕ → Bool
 isCell t p c = live t c && eqb (dim t c) p
+
+-- the number of live p-cells
+unfoldable pub countOf : List ℕ → ℕ → ℕ
+countOf t p = howMany (isCell t p) (cellsOf t)
 
 -- A table is valid when
 pub record Valid (t : List ℕ) : Type 0 where

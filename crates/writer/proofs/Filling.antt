@@ -11,11 +11,12 @@ use lib.Seq.{sets, sets-eq, length-sets, length-take-le, getD-set-same, getD-set
 use Rattle.counting.specs.Counting.{pick}
 use Rattle.counting.proofs.Cases.{below-or-not, same-or-other}
 use Rattle.table.specs.Kind.{dimensions}
-use Rattle.table.specs.Table.{cellsOf, dim, isCell}
+use Rattle.table.specs.Table.{cellsOf, dim, isCell, countOf}
 use Rattle.table.proofs.Dimensions.{other-dimension, cell-says}
 use Rattle.sketch.specs.Form.{pieces, contentsSize, bodyStart}
-use Rattle.sketch.specs.Written.{countOf, cellBytes, bodyOf, fileOf}
-use Rattle.sketch.proofs.Pieces.{pieces-zero, pieces-more, length-pieces, total-grows}
+use Rattle.sketch.specs.Written.{cellBytes, bodyOf, fileOf}
+use Rattle.counting.proofs.Totals.{total-grows}
+use Rattle.sketch.proofs.Pieces.{pieces-zero, pieces-more, length-pieces}
 use Rattle.sketch.proofs.Stands.{Stands, stands-whole, stands-moved, stands-left, stands-right, stands-both, stands-pieces}
 use Rattle.sketch.proofs.Sizes.{bodyStart-grows, bodyStart-least, length-file, bodies-place, body-end}
 use Rattle.writer.specs.Put.{Put, Started}

@@ -7,9 +7,9 @@ use native.Mathlib.Omega.{arith}
 use lib.ListN.{length, length-append}
 use lib.Seq.{sets, length-sets}
 use Rattle.table.specs.Kind.{used, dimensions}
-use Rattle.table.specs.Table.{cellsOf, dim, face}
+use Rattle.table.specs.Table.{cellsOf, dim, face, countOf}
 use Rattle.sketch.specs.Form.{two, four, pieces, entrySize, contentsSize, bodyStart}
-use Rattle.sketch.specs.Written.{countOf, cellBytes, bodyOf, contentsOf, fileOf}
+use Rattle.sketch.specs.Written.{cellBytes, bodyOf, contentsOf, fileOf}
 use Rattle.sketch.proofs.Bytes.{length-two, length-four}
 use Rattle.sketch.proofs.Sizes.{length-contents}
 use Rattle.writer.specs.Put.{Put, entry}

@@ -9,7 +9,8 @@ use native.Mathlib.Omega.{arith}
 use lib.ListN.{length, set, length-append}
 use lib.Seq.{sets, length-sets}
 use Rattle.sketch.specs.Form.{two, four, pieces}
-use Rattle.sketch.proofs.Pieces.{pieces-zero, pieces-more, length-pieces, total-inside}
+use Rattle.counting.proofs.Totals.{total-inside}
+use Rattle.sketch.proofs.Pieces.{pieces-zero, pieces-more, length-pieces}
 use Rattle.writer.specs.Put.{Put}
 
 -- the stores of x ++ y are those of x, then those of y

@@ -8,14 +8,14 @@ use native.Mathlib.Nat.{eq-or-lt-of-le}
 use native.Mathlib.Omega.{arith}
 use lib.ListN.{length, getD, set, replicate, length-replicate, length-set}
 use lib.Seq.{getD-set-same, getD-set-other}
-use Rattle.table.specs.Table.{cellsOf, Sized, isCell}
+use Rattle.table.specs.Table.{cellsOf, Sized, isCell, countOf}
 use Rattle.counting.specs.Counting.{howMany, listed}
 use Rattle.counting.proofs.Cases.{same-or-other}
 use Rattle.counting.proofs.Listed.{getD-listed}
 use Rattle.table.specs.Kind.{dimensions}
 use Rattle.sketch.specs.Form.{contentsSize, recordSize, bodyStart, longest}
-use Rattle.sketch.specs.Written.{countOf, fileOf}
-use Rattle.sketch.proofs.Pieces.{total-cong}
+use Rattle.sketch.specs.Written.{fileOf}
+use Rattle.counting.proofs.Totals.{total-cong}
 use Rattle.sketch.proofs.Sizes.{bodyStart-zero, bodyStart-more, bodyStart-grows, length-file, start-fits}
 use Rattle.writer.specs.Put.{Counted, Started, inArray}
 

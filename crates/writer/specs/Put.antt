@@ -7,7 +7,7 @@ use lib.ListN.{length, getD}
 use lib.Seq.{sets}
 use Rattle.table.specs.Kind.{dimensions}
 use Rattle.sketch.specs.Form.{two, four, bodyStart}
-use Rattle.sketch.specs.Written.{countOf}
+use Rattle.table.specs.Table.{countOf}
 
 -- These bytes went into d from place `at` on, which gave d′, and `end` is the place after them.
 pub record Put (d : List ℕ) (at : ℕ) (bytes : List ℕ) (end : ℕ) (d′ : List ℕ) : Type 0 where

@@ -7,7 +7,7 @@ use borrow.Author.Needs.{needs}
 use Rattle.table.specs.Kind.{dimensions}
 use Rattle.sketch.proofs.Sizes.{length-contents}
 use Rattle.sketch.specs.Form.{pieces, bodyStart}
-use Rattle.sketch.specs.Written.{countOf}
+use Rattle.table.specs.Table.{countOf}
 use Rattle.writer.specs.Put.{entry, Put}
 use Rattle.writer.proofs.Pasting.{put-as, put-no-piece, put-piece, next-fits, all-put}
 use Rattle.writer.proofs.Parts.{length-entry, entryOf, contents-parts}

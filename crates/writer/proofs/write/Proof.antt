@@ -6,9 +6,9 @@ use native.Mathlib.Omega.{arith}
 use borrow.Author.Needs.{needs}
 use lib.ListN.{length, getD}
 use Rattle.table.specs.Kind.{dimensions}
-use Rattle.table.specs.Table.{Valid}
+use Rattle.table.specs.Table.{Valid, countOf}
 use Rattle.audit.proofs.Valid.{audit-accepts-iff-valid}
-use Rattle.sketch.specs.Written.{countOf, fileOf}
+use Rattle.sketch.specs.Written.{fileOf}
 use Rattle.writer.specs.Put.{Counted, Started}
 use Rattle.writer.proofs.Parts.{contents-fit, file-put}
 use Rattle.writer.proofs.Starts.{census-counts, array-fits, table-starts, last-start}
