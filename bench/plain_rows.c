@@ -142,6 +142,13 @@ static inline size_t entry(unsigned p)
     return p ? 2 * p + 4 : 2;
 }
 
+/* The faces of a cell of dimension p, a constant at every call so that the loop unrolls. */
+static inline void faces(uint8_t *restrict out, const uint16_t *restrict r, unsigned p)
+{
+    for (unsigned j = 0; j <= p; j++)
+        put2(out + 2 + 2 * j, r[1 + j]);
+}
+
 uint32_t pl_write(const uint16_t *restrict t, size_t words, uint8_t *restrict target, size_t target_len, size_t *restrict written)
 {
     if (!pl_length(words))
@@ -172,12 +179,35 @@ uint32_t pl_write(const uint16_t *restrict t, size_t words, uint8_t *restrict ta
             continue;
         uint8_t *out = target + at[p];
         put2(out, (unsigned)c);
-        for (unsigned j = 0; p && j <= p; j++)
-            put2(out + 2 + 2 * j, r[1 + j]);
+        switch (p) {
+        case 0: break;
+        case 1: faces(out, r, 1); break;
+        case 2: faces(out, r, 2); break;
+        case 3: faces(out, r, 3); break;
+        case 4: faces(out, r, 4); break;
+        case 5: faces(out, r, 5); break;
+        default: faces(out, r, 6); break;
+        }
         at[p] += entry(p);
     }
     *written = end;
     return 0;
+}
+
+/* The body of dimension p, a constant at every call so that the faces unroll: where the next body starts, or 0 for a cell out of order. */
+static inline const uint8_t *body(uint16_t *restrict t, size_t n, const uint8_t *restrict in, size_t count, unsigned p)
+{
+    long before = -1;
+    for (; count; count--, in += entry(p)) {
+        unsigned c = get2(in);
+        if (c >= n || (long)c <= before || t[PL_RECORD * c] != PL_FREE)
+            return 0;
+        before = (long)c;
+        t[PL_RECORD * c] = (uint16_t)p;
+        for (unsigned j = 0; p && j <= p; j++)
+            t[PL_RECORD * c + 1 + j] = (uint16_t)get2(in + 2 + 2 * j);
+    }
+    return in;
 }
 
 uint32_t pl_read(uint16_t *restrict t, size_t words, const uint8_t *restrict file, size_t file_len)
@@ -199,19 +229,18 @@ uint32_t pl_read(uint16_t *restrict t, size_t words, const uint8_t *restrict fil
     uint32_t refusal = 0;
     const uint8_t *in = file + PL_CONTENTS;
     for (unsigned p = 0; p < PL_DIMENSIONS && !refusal; p++) {
-        long before = -1;
-        for (size_t i = get2(file + 2 + 6 * p); i; i--) {
-            unsigned c = get2(in);
-            if (c >= n || (long)c <= before || t[PL_RECORD * c] != PL_FREE) {
-                refusal = 16;
-                break;
-            }
-            before = (long)c;
-            t[PL_RECORD * c] = (uint16_t)p;
-            for (unsigned j = 0; p && j <= p; j++)
-                t[PL_RECORD * c + 1 + j] = (uint16_t)get2(in + 2 + 2 * j);
-            in += entry(p);
+        size_t count = get2(file + 2 + 6 * p);
+        switch (p) {
+        case 0: in = body(t, n, in, count, 0); break;
+        case 1: in = body(t, n, in, count, 1); break;
+        case 2: in = body(t, n, in, count, 2); break;
+        case 3: in = body(t, n, in, count, 3); break;
+        case 4: in = body(t, n, in, count, 4); break;
+        case 5: in = body(t, n, in, count, 5); break;
+        default: in = body(t, n, in, count, 6); break;
         }
+        if (!in)
+            refusal = 16;
     }
     if (!refusal)
         refusal = pl_audit(t, words);
