@@ -66,12 +66,13 @@ fn law_places(p: u16) -> usize
     Table::used(p)
 }
 
-// The quick pass makes every comparison of a record and leaves for none that differs, so that the compiler unrolls them. Where it does
-// not clear a cell, the labelled loops below, which are the form that the rules name, begin there and name the breach.
+// The quick pass makes the comparisons of a record a few at a time and leaves for none of them alone, so that the compiler unrolls them.
+// Where it does not clear a cell, the labelled loops below, which are the form that the rules name, begin there and name the breach.
 
 // Whether cell c breaks nothing, for its dimension p with this many used places and places of the law: the differences are gathered
-// in one word. The unused places come first: they ask for no other record. A face outside the table is left at once, since it cannot
-// be read. A no says nothing of what is wrong, or where. Each call has numbers for the last three, so the lengths of the loops are known.
+// in one word, which is looked at after the dimensions and after each place of the law. The unused places come first: they ask for no
+// other record. A face outside the table is left at once, since it cannot be read. A no says nothing of what is wrong, or where. Each
+// call has numbers for the last three, so the lengths of the loops are known.
 fn clears_as(t: &[u16], n: usize, c: usize, p: u16, used: usize, places: usize) -> bool
     requires { ⌜ (n ≡ cellsOf (now t)) × (c < n) ⌝ }
     requires { ⌜ (p ≡ dimOf (now t) c) × ((p ≤ top) ⊎ (p ≡ freeMark)) ⌝ }
@@ -92,11 +93,17 @@ fn clears_as(t: &[u16], n: usize, c: usize, p: u16, used: usize, places: usize) 
         let f = faces[j] as usize;
         bad |= Table::dim(t, f) ^ (p - 1);
     }
+    if bad != 0 {
+        return false;
+    }
     for j in 0..places {
         let f = faces[j] as usize;
         for l in 0..j {
             let e = faces[l] as usize;
             bad |= Table::face(t, f, l) ^ Table::face(t, e, j - 1);
+        }
+        if bad != 0 {
+            return false;
         }
     }
     bad == 0

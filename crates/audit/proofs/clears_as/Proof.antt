@@ -55,6 +55,10 @@ Ij t n c p used places faces bad₀ j₀ bad j =
 abbrev μj : tie.MeasureT-loop4
 μj t n c p used places faces bad₀ j₀ bad j = places - j
 
+-- from the law's outer loop back to where every face was seen to lie inside
+abbrev inside : tie.At-loop4 Iu μu Ir μr Id μd Il μl Ij μj → tie.At-loop2 Iu μu Ir μr Id μd Il μl Ij μj
+inside l = l .before .before .before .before .before
+
 loop-holds : tie.Need-loop-holds Iu μu Ir μr Id μd Il μl Ij μj
 loop-holds c = λ e. (e, λ k h u. omega arith)
 
@@ -79,8 +83,15 @@ loop2-holds c =
       λ k h. omega arith,
     )
 
+-- no says nothing
 returns : tie.Need-returns Iu μu Ir μr Id μd Il μl Ij μj
 returns c = λ e. absurd (false≢true e)
+
+returns-2 : tie.Need-returns-2 Iu μu Ir μr Id μd Il μl Ij μj
+returns-2 c = λ e. absurd (false≢true e)
+
+returns-3 : tie.Need-returns-3 Iu μu Ir μr Id μd Il μl Ij μj
+returns-3 c = λ e. absurd (false≢true e)
 
 loop2-again : tie.Need-loop2-again Iu μu Ir μr Id μd Il μl Ij μj
 loop2-again c =
@@ -109,12 +120,12 @@ loop5-holds c = λ e. (e, λ k h. omega arith)
 
 face-requires : tie.Need-face-requires Iu μu Ir μr Id μd Il μl Ij μj
 face-requires c κs =
-    let i = c .before .before .before .before .before .before .before .loop2 .inv in
+    let i = inside (c .before .before .before) .loop2 .inv in
     (omega (arith, i .0 .cells, i .1 (c .before .before .before .loop4 .j) (omega arith)), search needs)
 
 face-requires-2 : tie.Need-face-requires-2 Iu μu Ir μr Id μd Il μl Ij μj
 face-requires-2 c κs =
-    let i = c .before .before .before .before .before .before .before .before .loop2 .inv in
+    let i = inside (c .before .before .before .before) .loop2 .inv in
     (omega (arith, i .0 .cells, i .1 (c .before .before .loop5 .l) (omega arith)), search needs)
 
 loop5-again : tie.Need-loop5-again Iu μu Ir μr Id μd Il μl Ij μj
@@ -123,13 +134,13 @@ loop5-again c = one-more _ _ _ _ _ _ (c .before .before .before .loop5 .inv) (λ
 loop4-again : tie.Need-loop4-again Iu μu Ir μr Id μd Il μl Ij μj
 loop4-again c =
     λ e.
-    let q = c .before .loop5 .inv e in
-    let r = c .before .before .before .loop4 .inv (q .0) in
+    let q = c .before .before .loop5 .inv e in
+    let r = c .before .before .before .before .loop4 .inv (q .0) in
     (r .0, below-more _ _ (r .1) (λ l h. q .1 l (omega arith)))
 
-returns-2 : tie.Need-returns-2 Iu μu Ir μr Id μd Il μl Ij μj
-returns-2 c =
-    let dims = c .before .before .before in
+returns-4 : tie.Need-returns-4 Iu μu Ir μr Id μd Il μl Ij μj
+returns-4 c =
+    let dims = c .before .before .before .before in
     let bounds = dims .before .before in
     let first = bounds .before .before in
     let i = bounds .loop2 .inv in
@@ -145,6 +156,6 @@ clears-as-spec =
     (tie.spec Iu μu Ir μr Id μd Il μl Ij μj (λ c κs. search needs) loop-holds (λ c. search needs) (λ c. search needs) (λ c. search needs)
     (λ c. search needs) loop-again loop2-holds (λ c. search needs) (λ c. search needs) (λ c. search needs) returns (λ c. search needs)
     (λ c. search needs) loop2-again loop3-holds (λ c. search needs) (λ c. search needs) (λ c. search needs) dim-requires sub-bad
-    (λ c. search needs) (λ c. search needs) loop3-again loop4-holds (λ c. search needs) (λ c. search needs) (λ c. search needs) loop5-holds
-    (λ c. search needs) (λ c. search needs) (λ c. search needs) face-requires (λ c. search needs) face-requires-2 (λ c. search needs)
-    (λ c. search needs) loop5-again (λ c. search needs) (λ c. search needs) loop4-again returns-2)
+    (λ c. search needs) (λ c. search needs) loop3-again returns-2 loop4-holds (λ c. search needs) (λ c. search needs) (λ c. search needs)
+    loop5-holds (λ c. search needs) (λ c. search needs) (λ c. search needs) face-requires (λ c. search needs) face-requires-2
+    (λ c. search needs) (λ c. search needs) loop5-again returns-3 (λ c. search needs) (λ c. search needs) loop4-again returns-4)
