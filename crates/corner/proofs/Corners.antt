@@ -42,8 +42,8 @@ module _ (t : List ℕ) (v : Valid t) (c p : ℕ) (l : Live t c) (e : dim t c �
       ∙ rw (le-ltb k (suc p) (omega arith)) (sym (corner-as t (face t c 0) p p (face-level 0 (omega arith))))
 
 -- The two calls on a face, as the code makes them: p is the cell's dimension, not 0, and f the face. What the call asks, with the
--- dimension below the cell's; and what its answer says of the cell's corner.
-module _ (t : List ℕ) (c p k f m : ℕ) (v : Valid t) (l : Live t c) (e : p ≡ dim t c) (n : p ≡ 0 → ⊥) (is : dim t c ≡ m) where
+-- dimension handed on below d, which is the cell's; and what its answer says of the cell's corner.
+module _ (t : List ℕ) (c p k f d : ℕ) (v : Valid t) (l : Live t c) (e : p ≡ dim t c) (n : p ≡ 0 → ⊥) (is : p ≡ d) where
   below : dim t c ≡ suc (p - 1)
   below = omega (arith, nonzero p n)
     where
@@ -51,15 +51,13 @@ module _ (t : List ℕ) (c p k f m : ℕ) (v : Valid t) (l : Live t c) (e : p �
       nonzero zero h = absurd (h refl)
       nonzero (suc q) h = omega arith
 
-  face-asked : (j : ℕ) → j ≤ p → f ≡ face t c j → (Live t f) × (dim t f ≡ p - 1)
-  face-asked j h i =
+  face-asked : (j i : ℕ) → j ≤ p → i ≤ p - 1 → f ≡ face t c j → (p - 1 < d) × (Valid t × (Live t f × ((p - 1 ≡ dim t f) × (i ≤ p - 1))))
+  face-asked j i h g a =
       let u : j ≤ suc (p - 1) = omega (arith, below) in
-      rw i (face-lives t v c (p - 1) l below j u, face-level t v c (p - 1) l below j u)
+      (omega (arith, below), (v, (rw a (face-lives t v c (p - 1) l below j u), (rw a (sym (face-level t v c (p - 1) l below j u)), g))))
 
-  pub lower-asks : k < p → f ≡ face t c p → (dim t f < m) × (Valid t × (Live t f × (k ≤ dim t f)))
-  lower-asks h i =
-      let a = face-asked p (omega arith) i in
-      (omega (arith, a .1, below), (v, (a .0, omega (arith, a .1))))
+  pub lower-asks : k < p → f ≡ face t c p → (p - 1 < d) × (Valid t × (Live t f × ((p - 1 ≡ dim t f) × (k ≤ p - 1))))
+  lower-asks h = face-asked p k (omega arith) (omega arith)
 
   pub lower-answers : k < p → f ≡ face t c p → (r : ℕ) → r ≡ cornerOf t f k → r ≡ cornerOf t c k
   lower-answers h i r q =
@@ -67,12 +65,10 @@ module _ (t : List ℕ) (c p k f m : ℕ) (v : Valid t) (l : Live t c) (e : p �
       q ∙ ap (λ (x : ℕ). cornerOf t x k) (i ∙ ap (face t c) s)
       ∙ sym (corner-lower t v c (p - 1) l below k (omega (arith, below)))
 
-  pub last-asks : f ≡ face t c 0 → (dim t f < m) × (Valid t × (Live t f × (p - 1 ≤ dim t f)))
-  last-asks i =
-      let a = face-asked 0 (omega arith) i in
-      (omega (arith, a .1, below), (v, (a .0, omega (arith, a .1))))
+  pub last-asks : f ≡ face t c 0 → (p - 1 < d) × (Valid t × (Live t f × ((p - 1 ≡ dim t f) × (p - 1 ≤ p - 1))))
+  last-asks = face-asked 0 (p - 1) (omega arith) (omega arith)
 
-  pub last-answers : p ≤ k → k ≤ dim t c → f ≡ face t c 0 → (r : ℕ) → r ≡ cornerOf t f (p - 1) → r ≡ cornerOf t c k
+  pub last-answers : p ≤ k → k ≤ p → f ≡ face t c 0 → (r : ℕ) → r ≡ cornerOf t f (p - 1) → r ≡ cornerOf t c k
   last-answers g h i r q =
       q ∙ ap (λ (x : ℕ). cornerOf t x (p - 1)) i
       ∙ sym (corner-last t v c (p - 1) l below k (omega (arith, below)))

@@ -1,4 +1,4 @@
-// Corners: the lookup calls itself on a face, and the cell's dimension falls at each call.
+// Corners: the lookup calls itself on a face and hands on its dimension, which is one less than the cell's and so falls at each call.
 ghost use mathlib.Core.Path.{_≡_};
 ghost use Prim.Native.Nat.{_≤_};
 ghost use Rattle.table.specs.Table.{dim as dimOf, Valid, Live};
@@ -8,21 +8,21 @@ use calls::Refusal;
 use calls::Verdict;
 use table::Table;
 
-// Corner k of a live cell of a valid table.
-fn corner_of(t: &[u16], c: u16, k: u16) -> u16
+// Corner k of a live p-cell of a valid table.
+fn corner_of(t: &[u16], c: u16, p: u16, k: u16) -> u16
     requires { ⌜ Valid (now t) ⌝ }
     requires { ⌜ Live (now t) c ⌝ }
-    requires { ⌜ k ≤ dimOf (now t) c ⌝ }
+    requires { ⌜ p ≡ dimOf (now t) c ⌝ }
+    requires { ⌜ k ≤ p ⌝ }
     ensures { λ r. ⌜ r ≡ cornerOf (now (t .entry)) c k ⌝ }
 {
-    let p = Table::dim(t, c as usize);
     if p == 0 {
         return c;
     }
     if k < p {
-        return corner_of(t, Table::face(t, c as usize, p as usize), k);
+        return corner_of(t, Table::face(t, c as usize, p as usize), p - 1, k);
     }
-    corner_of(t, Table::face(t, c as usize, 0), p - 1)
+    corner_of(t, Table::face(t, c as usize, 0), p - 1, p - 1)
 }
 
 // Corner k of cell c. Refused with 1, 2, 3, 12, in that order.
@@ -44,8 +44,9 @@ fn of_valid(t: &[u16], c: u16, k: u16) -> Named
     if !Table::live(t, c as usize) {
         return Named::NoCell(Refusal::NotLive);
     }
-    if k > Table::dim(t, c as usize) {
+    let p = Table::dim(t, c as usize);
+    if k > p {
         return Named::NoCell(Refusal::NoSuchPlace);
     }
-    Named::Cell(corner_of(t, c, k))
+    Named::Cell(corner_of(t, c, p, k))
 }

@@ -1,6 +1,6 @@
--- Starting a row: the cell alone in the evidence, and beside it the words of its faces.
+-- Starting a row: the cell alone in the evidence, and beside it the words of its faces. The row of a point is finished with that.
 -- What carries it: the boundary of one cell is its faces, and a face lies below the size, so the row's words hold all of them. Assumes nothing.
-use mathlib.Core.Path.{_≡_, sym, ap, _∙_}
+use mathlib.Core.Path.{_≡_, sym, ap, subst, _∙_}
 use mathlib.Core.Logic.{by-cases}
 use mathlib.Core.Bool.{Bool}
 use mathlib.Core.List.{List}
@@ -20,10 +20,10 @@ use Rattle.rows.specs.Rows.{rowWidth, rowOf, FacesAdded}
 use Rattle.rows.proofs.Members.{member-cong, member-toggled, member-zeros, member-past}
 use Rattle.rows.proofs.Boundaries.{boundary-with-one, boundary-of-empty}
 use Rattle.rows.proofs.RowWords.{row-width-fits}
-use Rattle.reducer.specs.Rule.{alone, emptyRow}
-use Rattle.reducer.specs.Work.{Ready, Begun}
+use Rattle.reducer.specs.Rule.{stop, LargestOf, alone, emptyRow}
+use Rattle.reducer.specs.Work.{Owned, Roomy, Ready, Begun, Finished}
 use Rattle.reducer.proofs.RowWords.{row-at, kept-row, kept-others}
-use Rattle.reducer.proofs.Owners.{owned-stays}
+use Rattle.reducer.proofs.Owners.{owned-stays, owned-more}
 
 -- a set of the first words of another
 same-words : (w : ℕ) (x y : List ℕ) → ((k : ℕ) → k < w → getD x k 0 ≡ getD y k 0) → (s : ℕ) → s < bits * w → member x s ≡ member y s
@@ -51,24 +51,45 @@ module _ {K : Cells} {c : ℕ} (room : K .size ≤ capacity) (lawful : Lawful K)
       ∙ off-⊻ (K .inc c s))
       (λ past. member-past x s (omega arith) ∙ sym (not-true-false (K .inc c s) (λ e. omega (arith, lawful .faces c s e .face-below))))
 
-  module _ {w : ℕ} {ev ev₁ kept owner b : List ℕ} (e : w ≡ rowWidth K) (ready : Ready K c ev kept owner) (put : RowStarted w c ev ev₁) (added : FacesAdded K c (replicate fullWidth 0) b) where
+  -- a point has no faces, so the cell alone has no boundary
+  alone-point : K .dim c ≡ 0 → (m : ℕ) → LargestOf K (alone K c) m → ⊥
+  alone-point level m g = omega (arith, lawful .faces c m (sym (alone-bound m) ∙ g .member) .one-down)
+
+  module _ {w : ℕ} {ev ev₁ kept owner : List ℕ} (e : w ≡ rowWidth K) (ready : Ready K c ev kept owner) (put : RowStarted w c ev ev₁) where
     row : rowOf K ev₁ c ≡ alone K c
     unfolding alone
     row = kept-row K e put ∙ ap (λ (x : List ℕ). toggled x c) (sym (row-at K ev c e) ∙ ready .empty)
 
-    wide : length (take w b) ≡ rowWidth K
-    wide = length-take-le w b (omega (arith, added .long, length-replicate {A = ℕ} fullWidth 0, row-width-fits K room)) ∙ e
+    roomy : Roomy K ev₁ kept owner
+    roomy = record { evidence = put .long ∙ ready .roomy .evidence; boundaries = ready .roomy .boundaries; owners = ready .roomy .owners }
 
-    pub begun : Begun K c (take w b) ev₁ kept owner
-    begun = record {
-      roomy = record { evidence = put .long ∙ ready .roomy .evidence; boundaries = ready .roomy .boundaries; owners = ready .roomy .owners };
-      owned = owned-stays (λ i l. kept-others K e put i (λ q. omega arith)) (ready .owned);
-      row = row;
-      long = wide;
-      bounds = record {
-        same = λ s.
-            faces-bound (take w b) b wide (λ k l. getD-take w b k 0 (omega arith)) added s
-            ∙ sym (alone-bound s)
-            ∙ ap (λ (x : List ℕ). boundary K (member x) s) (sym row);
-      };
+    owned : Owned K ev₁ kept owner c
+    owned = owned-stays (λ i l. kept-others K e put i (λ q. omega arith)) (ready .owned)
+
+    -- the row of a point is finished, and owns nothing
+    pub point-finished : K .dim c ≡ 0 → Finished K c ev ev₁ kept owner 0
+    point-finished level = record {
+      roomy = roomy;
+      row = rw row (stop (λ b m l g h. alone-point level m g));
+      few = omega arith;
+      owned = owned-more owned (λ m g. alone-point level m (subst (λ (x : List ℕ). LargestOf K x m) row g));
+      others = kept-others K e put;
     }
+
+    module _ {b : List ℕ} (added : FacesAdded K c (replicate fullWidth 0) b) where
+      wide : length (take w b) ≡ rowWidth K
+      wide = length-take-le w b (omega (arith, added .long, length-replicate {A = ℕ} fullWidth 0, row-width-fits K room)) ∙ e
+
+      pub begun : Begun K c (take w b) ev₁ kept owner
+      begun = record {
+        roomy = roomy;
+        owned = owned;
+        row = row;
+        long = wide;
+        bounds = record {
+          same = λ s.
+              faces-bound (take w b) b wide (λ k l. getD-take w b k 0 (omega arith)) added s
+              ∙ sym (alone-bound s)
+              ∙ ap (λ (x : List ℕ). boundary K (member x) s) (sym row);
+        };
+      }

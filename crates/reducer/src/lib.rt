@@ -84,6 +84,10 @@ fn reduce_row(
     ensures { λ n. ⌜ Finished (cells (now (t .entry))) c (now (evidence .entry)) (now (evidence .exit)) (now (kept .exit)) (now (owner .exit)) n ⌝ }
 {
     bitset::start_row(evidence, c, w);
+    // A point has no faces, so nothing is added to its row.
+    if view::dim(t, c) == 0 {
+        return 0;
+    }
     let mut faces = [0; bitset::FULL];
     rows::add_faces(t, c, &mut faces);
     finish_row(t, c, w, &mut faces[..w], evidence, kept, owner)

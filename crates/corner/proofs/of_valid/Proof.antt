@@ -11,9 +11,6 @@ use Rattle.corner.proofs.CornerAnswers.{dead-refused, past-refused, cor
 use Rattle.corner.proofs.of_valid.Statement.{statement}
 use Rattle.corner.proofs.of_valid.Tie as tie
 
-live-requires : tie.Need-live-requires
-live-requires c κs = search needs
-
 returns : tie.Need-returns
 returns c =
     dead-refused _ _ _ (c .before .before .before .pre) (sym (c .before .live .ensures) ∙ not-true _ (c .if1 .taken))
@@ -43,4 +40,4 @@ returns-3 c =
 
 pub of-valid-spec : {M : Type 1} → statement M
 of-valid-spec =
-    tie.close (tie.spec live-requires returns dim-requires returns-2 corner-of-requires returns-3)
+    tie.close (tie.spec (λ c κs. search needs) returns dim-requires returns-2 corner-of-requires returns-3)
