@@ -1,3 +1,4 @@
 pub mod Kind
 pub mod Table
 pub mod Records
+pub mod Moves

@@ -1,9 +1,10 @@
 -- A record as one value: a dimension and the words at the face places. What a call leaves in a table is given record by record, and
 -- never by a word's place.
--- A reader must believe these definitions but for `Stored`, which only the functions that write for others cite; nothing here is proved.
+-- A reader must believe these definitions but for `Stored` and `ShiftedUp`, which only the functions that write for others cite; nothing
+-- here is proved.
 use mathlib.Core.Path.{_≡_}
 use mathlib.Core.List.{List}
-use Prim.Native.Nat.{ℕ, _-_, _*_, _/_, _%_, _<_}
+use Prim.Native.Nat.{ℕ, suc, _-_, _*_, _/_, _%_, _≤_, _<_}
 use lib.ListN.{length}
 use lib.Dec.{eqb}
 use Rattle.counting.specs.Counting.{pick, listed}
@@ -39,3 +40,10 @@ pub record Stored (c : ℕ) (r : Record) (t u : List ℕ) : Type 0 where
   pub size : length u ≡ length t
   pub here : Alike (recordAt u c) r
   pub else : (s : ℕ) → (s ≡ c → ⊥) → Alike (recordAt u s) (recordAt t s)
+
+-- v is the table t with records k to m − 1 moved up by one, and record k as it was
+pub record ShiftedUp (k m : ℕ) (t v : List ℕ) : Type 0 where
+  pub size : length v ≡ length t
+  pub low : (s : ℕ) → s ≤ k → Alike (recordAt v s) (recordAt t s)
+  pub up : (s : ℕ) → k ≤ s → s < m → Alike (recordAt v (suc s)) (recordAt t s)
+  pub far : (s : ℕ) → m < s → Alike (recordAt v s) (recordAt t s)

@@ -8,7 +8,8 @@ ghost use lib.Dec.{eqb};
 ghost use Rattle.counting.specs.Counting.{pick, howMany, listed};
 ghost use Rattle.table.specs.Kind.{capacity, top, dimensions, faces, width, freeMark, used};
 ghost use Rattle.table.specs.Table.{cellsOf, dim as dimOf, face as faceOf, facesOf, sized, live as liveIn, isCell};
-ghost use Rattle.table.specs.Records.{Record, Stored};
+ghost use Rattle.table.specs.Records.{Record, Stored, ShiftedUp};
+ghost use Rattle.table.specs.Moves.{MovedUp};
 
 // The table kind. It holds nothing: a table is the lent words.
 pub struct Table {}
@@ -148,6 +149,29 @@ impl Table {
         Table::put_faces(t, c, f);
         let at = c * Table::WORDS;
         t[at] = p;
+    }
+
+    // Moves records k to m − 1 up by one. Record k stays as it was.
+    pub fn shift_up(t: &mut [u16], k: usize, m: usize)
+        requires { ⌜ (k ≤ m) × (m < cellsOf (now t)) ⌝ }
+        ensures { λ _. ⌜ ShiftedUp k m (now (t .entry)) (now (t .exit)) ⌝ }
+    {
+        let start = k * Table::WORDS;
+        let n = (m - k) * Table::WORDS;
+        move_words(&mut t[start..], n);
+    }
+}
+
+// Moves the first n words of a part up by one record, the last first, since the places overlap. It is one plain loop over words in a
+// function of its own, with a distance that is known: compilers know such a loop as one move of memory.
+fn move_words(part: &mut [u16], n: usize)
+    requires { ⌜ n + width ≤ length (now part) ⌝ }
+    ensures { λ _. ⌜ MovedUp n (now (part .entry)) (now (part .exit)) ⌝ }
+{
+    let mut i = n;
+    while i > 0 {
+        i -= 1;
+        part[i + Table::WORDS] = part[i];
     }
 }
 
