@@ -2,13 +2,11 @@
 -- table is determined by them. Assumes nothing.
 use mathlib.Core.Path.{_≡_, refl, ap, ap₂, sym, subst, _∙_}
 use mathlib.Core.List.{List}
-use Prim.Native.Nat.{ℕ, zero, suc, _+_, _-_, _*_, _/_, _%_, _≤_, _<_}
+use Prim.Native.Nat.{ℕ, zero, suc, _+_, _-_, _*_, _/_, _%_, _<_}
 use native.Mathlib.Omega.{arith}
 use borrow.Author.Tests.{eq-eqb, ne-eqb}
 use lib.ListN.{length, getD, replicate, length-replicate, getD-replicate}
 use lib.Seq.{ext-getD}
-use lib.Dec.{eqb}
-use Rattle.counting.specs.Counting.{pick, listed}
 use Rattle.counting.proofs.Listed.{length-listed, getD-listed}
 use Rattle.table.specs.Kind.{width, faces}
 use Rattle.table.specs.Table.{cellsOf, dim, face}
@@ -63,12 +61,6 @@ at-words P n first later i h = go (i % width) refl
     go (suc k) e =
         let w : i ≡ i / width * width + (1 + k) = omega arith in
         subst P (sym w) (later (i / width) k (omega arith) (omega arith))
-
--- each word of a table is a dimension or a face
-pub each-word :
-    (P : ℕ → Type 0) (t : List ℕ) (n : ℕ) → length t ≡ n * width → ((c : ℕ) → c < n → P (dim t c)) →
-    ((c j : ℕ) → c < n → j < faces → P (face t c j)) → (i : ℕ) → i < length t → P (getD t i 0)
-each-word P t n e dims sides i h = at-words (λ k. P (getD t k 0)) n dims sides i (omega arith)
 
 -- two tables of n records that are alike, one by one, are the same words
 pub table-by-records : (t u : List ℕ) (n : ℕ) → length t ≡ n * width → length u ≡ n * width → ((c : ℕ) → c < n → Alike (recordAt t c) (recordAt u c)) → t ≡ u
