@@ -16,7 +16,7 @@ use Rattle.table.specs.Kind.{capacity, used}
 use Rattle.table.specs.Table.{cellsOf, dim, face, Live, Valid}
 use Rattle.table.proofs.Places.{used-says}
 use Rattle.sheet.specs.Sheet.{places}
-use Rattle.sheet.specs.Sides.{sidesBelow, Told, Counted}
+use Rattle.sheet.specs.Sides.{FaceAt, sidesBelow, Told, Counted, Crowded}
 use Rattle.counting.proofs.Totals.{total-zero, total-more, total-grows}
 
 -- whether place l of c names u
@@ -69,9 +69,12 @@ module _ (t k : List ℕ) (l c : ℕ) where
 
   -- A turn of the count over the places keeps its invariant, the length and what is counted: the counter of the cell f that place j
   -- names is written anew.
-  module _ (j f : ℕ) (h : Counting t k l c j) (e : f ≡ face t c j) (i : f < cellsOf t) where
-    named : passed f (j + 1) ≡ passed f j + 1
-    named = omega (arith, howMany-yes-more (names t c f) j (eq-eqb (face t c j) f (sym e)))
+  module _ (j f : ℕ) (h : Counting t k l c j) (a : FaceAt t c j f) where
+    told : Told l (dim t f) (getD k f 0) (passed f j)
+    told = h .each f (a .living .inside)
+
+    one-more : passed f (j + 1) ≡ passed f j + 1
+    one-more = omega (arith, howMany-yes-more (names t c f) j (eq-eqb (face t c j) f (sym (a .named))))
 
     module _ (v : ℕ) (now-told : Told l (dim t f) v (passed f (j + 1))) where
       abbrev k′ : List ℕ
@@ -80,9 +83,9 @@ module _ (t k : List ℕ) (l c : ℕ) where
       counter-more : (u : ℕ) → u < cellsOf t → Told l (dim t u) (getD k′ u 0) (passed u (j + 1))
       counter-more u b =
           same-or-other (λ s. Told l (dim t s) (getD k′ s 0) (passed s (j + 1))) u f
-          (subst (λ x. Told l (dim t f) x (passed f (j + 1))) (sym (getD-set-same k f v 0 (omega (arith, h .room)))) now-told)
+          (subst (λ x. Told l (dim t f) x (passed f (j + 1))) (sym (getD-set-same k f v 0 (omega arith))) now-told)
           (λ ne.
-          let same : passed u j ≡ passed u (j + 1) = omega (arith, howMany-no-more (names t c u) j (ne-eqb (face t c j) u (λ q. ne (sym q ∙ sym e)))) in
+          let same : passed u j ≡ passed u (j + 1) = omega (arith, howMany-no-more (names t c u) j (ne-eqb (face t c j) u (λ q. ne (sym q ∙ sym (a .named))))) in
           subst (λ x. Told l (dim t u) x (passed u (j + 1))) (sym (getD-set-other k f u v 0 ne))
           (subst (Told l (dim t u) (getD k u 0)) same (h .each u b)))
 
@@ -95,18 +98,24 @@ module _ (t k : List ℕ) (l c : ℕ) where
     pub count-turn :
         (k₀ : List ℕ) → length k ≡ length k₀ → getD k f 0 < 2 →
         (length (set k f (getD k f 0 + 1)) ≡ length k₀) × Counting t (set k f (getD k f 0 + 1)) l c (j + 1)
-    count-turn k₀ b few = turn (getD k f 0 + 1) (told-counted l (dim t f) (getD k f 0) (passed f j) (passed f (j + 1)) (h .each f i) named few) k₀ b
+    count-turn k₀ b few = turn (getD k f 0 + 1) (told-counted l (dim t f) (getD k f 0) (passed f j) (passed f (j + 1)) told one-more few) k₀ b
 
-    -- or marked, where f is not one below the largest dimension;
+    -- or marked, where c is not of the largest dimension;
     pub mark-turn :
-        (k₀ : List ℕ) → length k ≡ length k₀ → (dim t f + 2 ≡ l → ⊥) →
+        (k₀ : List ℕ) → length k ≡ length k₀ → (dim t c + 1 ≡ l → ⊥) →
         (length (set k f 1) ≡ length k₀) × Counting t (set k f 1) l c (j + 1)
-    mark-turn k₀ b off = turn 1 (told-marked l (dim t f) (getD k f 0) (passed f j) (passed f (j + 1)) (h .each f i) named off) k₀ b
+    mark-turn k₀ b off =
+        turn 1 (told-marked l (dim t f) (getD k f 0) (passed f j) (passed f (j + 1)) told one-more (λ e. off (omega arith))) k₀ b
 
     -- and where it was 2 already, this is a third place.
-    pub third-place : c < cellsOf t → j < used (dim t c) → 2 ≤ getD k f 0 → 3 ≤ sidesBelow t f (cellsOf t)
-    third-place b a two =
-        omega (arith, h .each f i .most, named, howMany-mono (names t c f) (j + 1) (used (dim t c)) (omega arith), places-all t c f, sides-more t f c, sides-grow t f c b)
+    pub third-place : c < cellsOf t → dim t c + 1 ≡ l → j < used (dim t c) → 2 ≤ getD k f 0 → Crowded t l
+    third-place b e i two =
+        record {
+          cell = f;
+          living = a .living;
+          level = omega arith;
+          three = omega (arith, told .most, one-more, howMany-mono (names t c f) (j + 1) (used (dim t c)) (omega arith), places-all t c f, sides-more t f c, sides-grow t f c b);
+        }
 
   -- After all places the cell is counted.
   pub counting-ends : (j : ℕ) → Counting t k l c j → j ≡ used (dim t c) → Counted t k l (c + 1)
@@ -137,13 +146,10 @@ counted-all t k l c n e h g i =
     let z : c ≡ cellsOf t = omega arith in
     subst (Counted t k l) z i
 
--- what a face of a record says of the cell f that it names
+-- a face of a record, at a place that it uses
 module _ (t : List ℕ) (v : Valid t) (c j f : ℕ) (h : c < cellsOf t) (i : j < used (dim t c)) (e : f ≡ face t c j) where
   living : Live t c
   living = record { inside = h; low = used-says (dim t c) j i .1 }
 
-  pub face-lives : Live t f
-  face-lives = rw e (v .face-live c j living i)
-
-  pub face-below : dim t f + 1 ≡ dim t c
-  face-below = rw e (omega (arith, v .face-dim c j living i))
+  pub face-at : FaceAt t c j f
+  face-at = record { named = e; living = rw e (v .face-live c j living i); below = rw e (omega (arith, v .face-dim c j living i)) }

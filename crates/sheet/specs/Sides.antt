@@ -8,7 +8,7 @@ use lib.ListN.{length, getD}
 use lib.Dec.{eqb, ltb}
 use Rattle.counting.specs.Counting.{total, pick, all}
 use Rattle.table.specs.Kind.{top}
-use Rattle.table.specs.Table.{cellsOf, dim, Live, live}
+use Rattle.table.specs.Table.{cellsOf, dim, face, Live, live}
 use Rattle.sheet.specs.Sheet.{places}
 
 -- the level of a record with word 0 p: one more than its dimension, or 0 where it is free
@@ -19,6 +19,12 @@ levelOf p = pick (ltb top p) 0 (p + 1)
 unfoldable pub levelsBelow : List ℕ → ℕ → ℕ
 levelsBelow t zero = 0
 levelsBelow t (suc m) = pick (live t m) (max (levelsBelow t m) (suc (dim t m))) (levelsBelow t m)
+
+-- f is the cell that c names at place j: it lives, one dimension down
+pub record FaceAt (t : List ℕ) (c j f : ℕ) : Type 0 where
+  pub named : f ≡ face t c j
+  pub living : Live t f
+  pub below : dim t f + 1 ≡ dim t c
 
 -- at how many places of the cells below number m u is named
 unfoldable pub sidesBelow : List ℕ → ℕ → ℕ → ℕ

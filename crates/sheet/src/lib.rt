@@ -3,9 +3,10 @@
 // that is neither an n-cell nor named. In a valid table the cells over an (n−1)-cell are n-cells, so a place of one is a wing.
 ghost use mathlib.Core.Path.{_≡_};
 ghost use Prim.Native.Nat.{_+_, _<_};
+ghost use Rattle.table.specs.Kind.{used as usedOf};
 ghost use Rattle.table.specs.Table.{cellsOf, dim as dimOf, Valid};
 ghost use Rattle.sheet.specs.Sheet.{isSheet, sheetAnswer};
-ghost use Rattle.sheet.specs.Sides.{levelOf, levelsBelow, Counted, CountEnds, passes as passesTest, allPass};
+ghost use Rattle.sheet.specs.Sides.{levelOf, levelsBelow, FaceAt, Counted, CountEnds, passes as passesTest, allPass};
 use calls::Refusal;
 use calls::Verdict;
 use table::Table;
@@ -42,15 +43,31 @@ fn levels(t: &[u16]) -> u16
     l
 }
 
+// How many places c has.
+fn places(t: &[u16], c: usize) -> usize
+    requires { ⌜ c < cellsOf (now t) ⌝ }
+    ensures { λ r. ⌜ r ≡ usedOf (dimOf (now (t .entry)) c) ⌝ }
+{
+    Table::used(Table::dim(t, c))
+}
+
+// The cell that c names at its place j: it lives, one dimension down.
+fn named(t: &[u16], c: usize, j: usize) -> usize
+    requires { ⌜ (Valid (now t)) × (c < cellsOf (now t)) × (j < usedOf (dimOf (now t) c)) ⌝ }
+    ensures { λ r. ⌜ FaceAt (now (t .entry)) c j r ⌝ }
+{
+    Table::face(t, c, j) as usize
+}
+
 // Counts the places of c, a cell of the largest dimension: one for the cell that each names. Leaves with no at a third place of one
 // cell. Here and in the next function the levels l are named for the contract alone.
 fn count_wings(t: &[u16], c: usize, l: u16, sides: &mut [u16]) -> bool
     requires { ⌜ (Valid (now t)) × (c < cellsOf (now t)) × (Counted (now t) (now sides) l c) × (dimOf (now t) c + 1 ≡ l) ⌝ }
     ensures { λ r. ⌜ CountEnds (now (t .entry)) (now (sides .exit)) l (c + 1) r ⌝ }
 {
-    let used = Table::used(Table::dim(t, c));
+    let used = places(t, c);
     for j in 0..used {
-        let u = Table::face(t, c, j) as usize;
+        let u = named(t, c, j);
         if sides[u] >= 2 {
             return false;
         }
@@ -64,9 +81,9 @@ fn mark_faces(t: &[u16], c: usize, l: u16, sides: &mut [u16])
     requires { ⌜ (Valid (now t)) × (c < cellsOf (now t)) × (Counted (now t) (now sides) l c) × (dimOf (now t) c + 1 ≡ l → ⊥) ⌝ }
     ensures { λ _. ⌜ Counted (now (t .entry)) (now (sides .exit)) l (c + 1) ⌝ }
 {
-    let used = Table::used(Table::dim(t, c));
+    let used = places(t, c);
     for j in 0..used {
-        let f = Table::face(t, c, j) as usize;
+        let f = named(t, c, j);
         sides[f] = 1;
     }
 }

@@ -1,13 +1,11 @@
 -- `sheet::mark_faces` meets its contract. The invariant: the counters are those of the cells below c and of its places below j, and as
 -- many as they were. The measure: what is left of the places. Assumes nothing.
 use borrow.Author.Needs.{needs}
-use mathlib.Core.Path.{_≡_, refl, ap, _∙_}
-use Prim.Native.Nat.{_+_, _-_, _≤_, _<_}
+use mathlib.Core.Path.{_≡_, refl}
+use Prim.Native.Nat.{_-_, _≤_}
 use native.Mathlib.Omega.{arith}
 use lib.ListN.{length}
-use Rattle.table.specs.Kind.{used as usedOf}
-use Rattle.table.specs.Table.{dim, Live}
-use Rattle.sheet.proofs.Counters.{Counting, counting-starts, mark-turn, counting-ends, face-lives, face-below}
+use Rattle.sheet.proofs.Counters.{Counting, counting-starts, mark-turn, counting-ends}
 use Rattle.sheet.proofs.mark_faces.Statement.{statement}
 use Rattle.sheet.proofs.mark_faces.Tie as tie
 
@@ -18,44 +16,20 @@ abbrev μ-loop : tie.MeasureT-loop
 μ-loop t c l sides₀ used j₀ sides j = used - j
 
 loop-holds : tie.Need-loop-holds Inv-loop μ-loop
-loop-holds c = (omega arith, (refl, counting-starts _ _ _ _ (c .before .before .before .before .pre .2)))
-
--- what the function was asked, seen from its loop
-abbrev asked : tie.At-loop Inv-loop μ-loop → tie.Start Inv-loop μ-loop
-asked l = l .before .before .before .before .before
-
--- the places are those of the cell, and a face that is read is a live cell one dimension down
-places : (c : tie.After-used Inv-loop μ-loop) → c .used .result ≡ usedOf (dim (c .before .before .before .before .args .t .now) (c .before .before .before .before .args .c))
-places c = c .used .ensures .0 ∙ ap usedOf (c .before .dim .ensures)
-
-module _ (c : tie.After-face Inv-loop μ-loop) where
-  abbrev start : tie.Start Inv-loop μ-loop
-  start = asked (c .before .before)
-
-  at-place : c .before .before .loop .j < usedOf (dim (start .args .t .now) (start .args .c))
-  at-place = omega (arith, c .before .loop-test .taken, places (c .before .before .before))
-
-  lives : Live (start .args .t .now) (c .face .result)
-  lives = face-lives _ (start .pre .0) _ _ _ (start .pre .1) at-place (c .face .ensures)
-
-  below : dim (start .args .t .now) (c .face .result) + 1 ≡ dim (start .args .t .now) (start .args .c)
-  below = face-below _ (start .pre .0) _ _ _ (start .pre .1) at-place (c .face .ensures)
-
-slice-write-sides : tie.Need-slice-write-sides Inv-loop μ-loop
-slice-write-sides c = omega (arith, lives c .inside, c .before .before .loop .inv .1 .1 .room)
+loop-holds c = (omega arith, (refl, counting-starts _ _ _ _ (c .before .before .before .pre .2)))
 
 loop-again : tie.Need-loop-again Inv-loop μ-loop
 loop-again c =
     let l = c .before .before in
     let i = l .loop .inv .1 in
-    let s = asked l in
-    (omega arith, mark-turn _ _ _ _ _ _ (i .1) (c .face .ensures) (lives c .inside) (s .args .sides .now) (i .0) (λ e. s .pre .3 (omega (arith, below c))))
+    let s = l .before .before .before .before in
+    (omega arith, mark-turn _ _ _ _ _ _ (i .1) (c .named .ensures) (s .args .sides .now) (i .0) (s .pre .3))
 
 returns : tie.Need-returns Inv-loop μ-loop
-returns c = counting-ends _ _ _ _ _ (c .before .loop .inv .1 .1) (omega (arith, c .before .loop .inv .0, c .loop-test .left, places (c .before .before)))
+returns c = counting-ends _ _ _ _ _ (c .before .loop .inv .1 .1) (omega arith)
 
 pub mark-faces-spec : {M : Type 1} → statement M
 mark-faces-spec =
     tie.close
-    (tie.spec Inv-loop μ-loop (λ c κs. search needs) (λ c κs. search needs) loop-holds (λ c κs. search needs) (λ c. search needs)
-    (λ c. search needs) slice-write-sides (λ c. search needs) (λ c. search needs) loop-again (λ c. search needs) returns)
+    (tie.spec Inv-loop μ-loop (λ c κs. search needs) loop-holds (λ c κs. search needs) (λ c. search needs) (λ c. search needs)
+    (λ c. search needs) (λ c. search needs) loop-again (λ c. search needs) returns)
