@@ -20,11 +20,15 @@ pub record Passed (K : Cells) (ev : List ℕ) (c : ℕ) : Type 0 where
   pub keeps-a : (b : ℕ) → b < c → keepsA K ev b ≡ true
   pub keeps-b : (b : ℕ) → b < c → keepsB K ev b ≡ true
 
+-- How one of n rows is the first at fault, by the refusal that names it.
+pub data Fault (K : Cells) (ev : List ℕ) (n : ℕ) : Refusal → Type 0 where
+  breaks-a : (c : ℕ) → c < n → Passed K ev c → keepsA K ev c ≡ false → Fault K ev n (refusals.RuleA c)
+  breaks-b : (c : ℕ) → c < n → Passed K ev c → keepsA K ev c ≡ true → keepsB K ev c ≡ false → Fault K ev n (refusals.RuleB c)
+
 -- Either all of n rows pass, or one is the first at fault.
 data Outcome (K : Cells) (ev : List ℕ) (n : ℕ) : Type 0 where
   passes : Passed K ev n → Outcome K ev n
-  breaks-a : (c : ℕ) → c < n → Passed K ev c → keepsA K ev c ≡ false → Outcome K ev n
-  breaks-b : (c : ℕ) → c < n → Passed K ev c → keepsA K ev c ≡ true → keepsB K ev c ≡ false → Outcome K ev n
+  fails : {r : Refusal} → Fault K ev n r → Outcome K ev n
 
 -- the verdict over k rows from c on
 abbrev pub verdictFrom : Cells → List ℕ → ℕ → ℕ → Verdict
@@ -72,21 +76,25 @@ module _ (K : Cells) (ev : List ℕ) where
       ∙ ap (verdictFrom K ev c) e
       ∙ row-passes c (n - suc c) (p .keeps-a c (omega arith)) (p .keeps-b c (omega arith))
 
+  at-row : (c n : ℕ) → c < n → Passed K ev c → verdictFrom K ev 0 n ≡ verdictFrom K ev c (suc (n - suc c))
+  at-row c n h p =
+      let e : n - c ≡ suc (n - suc c) = omega arith in
+      rows-pass c n (omega arith) p ∙ ap (verdictFrom K ev c) e
+
   pub all-pass : (n : ℕ) → Passed K ev n → Accepted ≡ verdictFrom K ev 0 n
   unfolding rowGrounds
   all-pass n p =
       let e : n - n ≡ 0 = omega arith in
       sym (rows-pass n n (omega arith) p ∙ ap (verdictFrom K ev n) e)
 
-  pub first-breaks-a : (c n : ℕ) → c < n → Passed K ev c → keepsA K ev c ≡ false → Refused (refusals.RuleA c) ≡ verdictFrom K ev 0 n
-  first-breaks-a c n h p a =
-      let e : n - c ≡ suc (n - suc c) = omega arith in
-      sym (rows-pass c n (omega arith) p ∙ ap (verdictFrom K ev c) e ∙ row-breaks-a c (n - suc c) a)
+  -- the first row at fault is named,
+  pub fault-named : {n : ℕ} {r : Refusal} → Fault K ev n r → Refused r ≡ verdictFrom K ev 0 n
+  fault-named {n} (breaks-a c h p a) = sym (at-row c n h p ∙ row-breaks-a c (n - suc c) a)
+  fault-named {n} (breaks-b c h p a b) = sym (at-row c n h p ∙ row-breaks-b c (n - suc c) a b)
 
-  pub first-breaks-b : (c n : ℕ) → c < n → Passed K ev c → keepsA K ev c ≡ true → keepsB K ev c ≡ false → Refused (refusals.RuleB c) ≡ verdictFrom K ev 0 n
-  first-breaks-b c n h p a b =
-      let e : n - c ≡ suc (n - suc c) = omega arith in
-      sym (rows-pass c n (omega arith) p ∙ ap (verdictFrom K ev c) e ∙ row-breaks-b c (n - suc c) a b)
+  fault-later : {n : ℕ} {r : Refusal} → Fault K ev n r → Fault K ev (suc n) r
+  fault-later (breaks-a c h p a) = breaks-a c (omega arith) p a
+  fault-later (breaks-b c h p a b) = breaks-b c (omega arith) p a b
 
   outcome : (n : ℕ) → Outcome K ev n
   outcome zero = passes passed-none
@@ -96,41 +104,24 @@ module _ (K : Cells) (ev : List ℕ) where
       go (passes p) = by-mark (keepsA K ev n)
           (λ a. by-mark (keepsB K ev n)
           (λ b. passes (passed-suc n p a b))
-          (λ b. breaks-b n (omega arith) p a b))
-          (λ a. breaks-a n (omega arith) p a)
-      go (breaks-a c h p a) = breaks-a c (omega arith) p a
-      go (breaks-b c h p a b) = breaks-b c (omega arith) p a b
+          (λ b. fails (breaks-b n (omega arith) p a b)))
+          (λ a. fails (breaks-a n (omega arith) p a))
+      go (fails f) = fails (fault-later f)
 
   pub accepted-pass : (n : ℕ) → verdictFrom K ev 0 n ≡ Accepted → Passed K ev n
   accepted-pass n e = go (outcome n)
     where
       go : Outcome K ev n → Passed K ev n
       go (passes p) = p
-      go (breaks-a c h p a) = absurd (refused-not-accepted _ (first-breaks-a c n h p a ∙ e))
-      go (breaks-b c h p a b) = absurd (refused-not-accepted _ (first-breaks-b c n h p a b ∙ e))
+      go (fails f) = absurd (refused-not-accepted _ (fault-named f ∙ e))
 
-  pub fault-a : (c n : ℕ) → verdictFrom K ev 0 n ≡ Refused (refusals.RuleA c) → (c < n) × Passed K ev c × (keepsA K ev c ≡ false)
-  fault-a c n e = go (outcome n)
+  -- and what is named is the first row at fault
+  pub named-fault : (n : ℕ) (r : Refusal) → verdictFrom K ev 0 n ≡ Refused r → Fault K ev n r
+  named-fault n r e = go (outcome n)
     where
-      go : Outcome K ev n → (c < n) × Passed K ev c × (keepsA K ev c ≡ false)
+      go : Outcome K ev n → Fault K ev n r
       go (passes p) = absurd (refused-not-accepted _ (sym (all-pass n p ∙ e)))
-      go (breaks-a b h p a) =
-          let q : b ≡ c = let both-refused : Refused (refusals.RuleA b) ≡ Refused (refusals.RuleA c) = first-breaks-a b n h p a ∙ e in cc in
-          subst (λ (k : ℕ). (k < n) × Passed K ev k × (keepsA K ev k ≡ false)) q (h, p, a)
-      go (breaks-b b h p a d) =
-          let other : Refused (refusals.RuleB b) ≡ Refused (refusals.RuleA c) = first-breaks-b b n h p a d ∙ e in
-          let z : _≡_ {A = ℕ} 0 1 = cc in
-          absurd (omega arith)
-
-  pub fault-b : (c n : ℕ) → verdictFrom K ev 0 n ≡ Refused (refusals.RuleB c) → (c < n) × Passed K ev c × (keepsA K ev c ≡ true) × (keepsB K ev c ≡ false)
-  fault-b c n e = go (outcome n)
-    where
-      go : Outcome K ev n → (c < n) × Passed K ev c × (keepsA K ev c ≡ true) × (keepsB K ev c ≡ false)
-      go (passes p) = absurd (refused-not-accepted _ (sym (all-pass n p ∙ e)))
-      go (breaks-b b h p a d) =
-          let q : b ≡ c = let both-refused : Refused (refusals.RuleB b) ≡ Refused (refusals.RuleB c) = first-breaks-b b n h p a d ∙ e in cc in
-          subst (λ (k : ℕ). (k < n) × Passed K ev k × (keepsA K ev k ≡ true) × (keepsB K ev k ≡ false)) q (h, p, a, d)
-      go (breaks-a b h p a) =
-          let other : Refused (refusals.RuleA b) ≡ Refused (refusals.RuleB c) = first-breaks-a b n h p a ∙ e in
-          let z : _≡_ {A = ℕ} 0 1 = cc in
-          absurd (omega arith)
+      go (fails {r = q} f) =
+          let both : Refused q ≡ Refused r = fault-named f ∙ e in
+          let same : q ≡ r = cc in
+          subst (Fault K ev n) same f

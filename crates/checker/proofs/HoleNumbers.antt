@@ -2,29 +2,28 @@
 -- What carries it: the theorem on hole counts, for cells that are lawful since the table is valid. Assumes nothing.
 use mathlib.Core.Path.{_≡_, sym, ap, subst, _∙_}
 use mathlib.Core.List.{List}
-use Prim.Native.Nat.{ℕ, suc, _+_, _≤_}
+use Prim.Native.Nat.{ℕ, _+_, _≤_}
 use native.Mathlib.Omega.{arith}
 use lib.ListN.{getD}
 use Rattle.homology.specs.Holes.{IsHoleNumber}
-use Rattle.homology.specs.Evidence.{cellsIn, boundingIn, holesIn}
-use Rattle.homology.proofs.HoleTheorem.{holes-are-hole-numbers, no-bounding-above}
+use Rattle.homology.specs.Evidence.{cellsIn, holesIn}
+use Rattle.homology.proofs.HoleTheorem.{holes-are-hole-numbers}
 use Rattle.table.specs.Kind.{top}
 use Rattle.table.specs.Table.{Valid}
 use Rattle.counting.proofs.Listed.{getD-listed}
 use Rattle.calls.specs.declared.Verdict.the-variants.{Accepted}
-use Rattle.complex.specs.View.{View, Frame, viewed}
 use Rattle.complex.specs.Cells.{cells}
 use Rattle.complex.proofs.Boundary.{valid-is-lawful}
 use Rattle.rows.specs.Rows.{rows}
 use Rattle.checker.specs.declared.Checked.{Checked}
 use Rattle.checker.specs.Check.{checkVerdict, perDimension, Checks}
-use Rattle.checker.proofs.Accepting.{accepted-meets, accepted-decide}
+use Rattle.checker.proofs.Accepting.{accepted-meets, accepted-rows}
 
 pub checked-holes-are-hole-numbers : (t ev : List ℕ) → Valid t → checkVerdict t ev ≡ Accepted → (p : ℕ) → IsHoleNumber (cells t) p (holesIn (cells t) (rows (cells t) ev) p)
 checked-holes-are-hole-numbers t ev v e = holes-are-hole-numbers (cells t) (valid-is-lawful t v) (rows (cells t) ev) (accepted-meets t ev e)
 
 pub accepted-holes-are-hole-numbers : (t ev : List ℕ) → checkVerdict t ev ≡ Accepted → (p : ℕ) → IsHoleNumber (cells t) p (holesIn (cells t) (rows (cells t) ev) p)
-accepted-holes-are-hole-numbers t ev e = checked-holes-are-hole-numbers t ev (accepted-decide t ev e .valid) e
+accepted-holes-are-hole-numbers t ev e = checked-holes-are-hole-numbers t ev (accepted-rows t ev e .valid) e
 
 -- what a call answers that accepts
 module _ (t ev : List ℕ) (r : Checked) (h : Checks t ev r) (e : r .verdict ≡ Accepted) where

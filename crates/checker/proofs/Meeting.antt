@@ -2,6 +2,7 @@
 -- the first row at fault is named.
 -- What carries it: the tests of a row are the rules. Assumes nothing.
 use mathlib.Core.Path.{_≡_, sym}
+use mathlib.Core.Bool.{Bool, true, false}
 use mathlib.Core.List.{List}
 use mathlib.Core.Logic.{_↔_}
 use Prim.Native.Nat.{ℕ, _≤_, _<_}
@@ -12,75 +13,59 @@ use Rattle.homology.specs.Cells.{Cells, Lawful}
 use Rattle.homology.specs.Evidence.{RuleA, RuleB, Meets}
 use Rattle.homology.proofs.Marks.{clash}
 use Rattle.calls.specs.Calls.{verdict}
+use Rattle.calls.specs.declared.Refusal.{Refusal}
 use Rattle.calls.specs.declared.Refusal.the-variants as refusals
-use Rattle.calls.specs.declared.Verdict.the-variants.{Accepted, Refused}
+use Rattle.calls.specs.declared.Verdict.the-variants.{Accepted}
 use Rattle.rows.specs.Rows.{evidenceWords, rows}
 use Rattle.checker.specs.Fault.{FirstBreaksA, FirstBreaksB}
-use Rattle.checker.specs.Check.{allRows, keepsA, keepsB}
+use Rattle.checker.specs.Check.{allRows}
 use Rattle.checker.proofs.Rules.{keepsA-is-rule-a, keepsB-is-rule-b}
-use Rattle.checker.proofs.Faults.{Passed, all-pass, accepted-pass, first-breaks-a, first-breaks-b, fault-a, fault-b}
+use Rattle.checker.proofs.Faults.{Passed, Fault, breaks-a, breaks-b, all-pass, accepted-pass}
+
+-- a test that is a rule fails exactly where the rule is broken
+fails-iff : {b : Bool} {P : Type 0} → (b ≡ true) ↔ P → (b ≡ false) ↔ (P → ⊥)
+fails-iff {b} i = (λ e r. clash (i .1 r) e, λ n. not-true-false b (λ e. n (i .0 e)))
 
 module _ (K : Cells) (ev : List ℕ) (law : Lawful K) (long : length ev ≡ evidenceWords K) where
-  pub passed-meets : Passed K ev (K .size) → Meets K (rows K ev)
-  passed-meets p = record {
-    rule-a = λ c h. keepsA-is-rule-a K ev long c h .0 (p .keeps-a c h);
-    rule-b = λ c h. keepsB-is-rule-b K ev law c .0 (p .keeps-b c h);
-  }
+  -- every row below c keeps both rules
+  abbrev Lower : ℕ → Type 0
+  Lower c = ((b : ℕ) → b < c → RuleA K (rows K ev) b) × ((b : ℕ) → b < c → RuleB K (rows K ev) b)
 
-  meets-passed : Meets K (rows K ev) → Passed K ev (K .size)
-  meets-passed m = record {
-    keeps-a = λ c h. keepsA-is-rule-a K ev long c h .1 (m .rule-a c h);
-    keeps-b = λ c h. keepsB-is-rule-b K ev law c .1 (m .rule-b c h);
-  }
+  passed-iff-lower : (c : ℕ) → c ≤ K .size → Passed K ev c ↔ Lower c
+  passed-iff-lower c h = (
+    λ p. (λ b l. keepsA-is-rule-a K ev long b (omega arith) .0 (p .keeps-a b l), λ b l. keepsB-is-rule-b K ev law b .0 (p .keeps-b b l)),
+    λ m. record {
+      keeps-a = λ b l. keepsA-is-rule-a K ev long b (omega arith) .1 (m .0 b l);
+      keeps-b = λ b l. keepsB-is-rule-b K ev law b .1 (m .1 b l);
+    },
+  )
+
+  pub passed-meets : Passed K ev (K .size) → Meets K (rows K ev)
+  passed-meets p = let m = passed-iff-lower (K .size) (omega arith) .0 p in record { rule-a = m .0; rule-b = m .1 }
 
   pub rows-accepted-iff-rules : (verdict (allRows K ev) ≡ Accepted) ↔ Meets K (rows K ev)
   rows-accepted-iff-rules = (
     λ e. passed-meets (accepted-pass K ev (K .size) e),
-    λ m. sym (all-pass K ev (K .size) (meets-passed m)),
+    λ m. sym (all-pass K ev (K .size) (passed-iff-lower (K .size) (omega arith) .1 (m .rule-a, m .rule-b))),
   )
 
-  module _ (c : ℕ) (inside : c < K .size) (p : Passed K ev c) where
-    lower-rows-a : (b : ℕ) → b < c → RuleA K (rows K ev) b
-    lower-rows-a b l = let h : b < K .size = omega arith in keepsA-is-rule-a K ev long b h .0 (p .keeps-a b l)
+  -- the first row at fault by the tests is the first by the rules
+  module _ (c : ℕ) where
+    by-rule-a : Fault K ev (K .size) (refusals.RuleA c) → FirstBreaksA K ev c
+    by-rule-a (breaks-a c h p a) =
+        let m = passed-iff-lower c (omega arith) .0 p in
+        record { inside = h; lower-a = m .0; lower-b = m .1; broken = fails-iff (keepsA-is-rule-a K ev long c h) .0 a }
 
-    lower-rows-b : (b : ℕ) → b < c → RuleB K (rows K ev) b
-    lower-rows-b b l = keepsB-is-rule-b K ev law b .0 (p .keeps-b b l)
+    by-rule-b : Fault K ev (K .size) (refusals.RuleB c) → FirstBreaksB K ev c
+    by-rule-b (breaks-b c h p a b) =
+        let m = passed-iff-lower c (omega arith) .0 p in
+        record { inside = h; lower-a = m .0; lower-b = m .1; kept = keepsA-is-rule-a K ev long c h .0 a; broken = fails-iff (keepsB-is-rule-b K ev law c) .0 b }
 
-  pub named-breaks-a : (c : ℕ) → verdict (allRows K ev) ≡ Refused (refusals.RuleA c) → FirstBreaksA K ev c
-  named-breaks-a c e =
-      let f = fault-a K ev c (K .size) e in
-      record {
-        inside = f .0;
-        lower-a = lower-rows-a c (f .0) (f .1);
-        lower-b = lower-rows-b c (f .0) (f .1);
-        broken = λ r. clash (keepsA-is-rule-a K ev long c (f .0) .1 r) (f .2);
-      }
+    pub fault-a : Fault K ev (K .size) (refusals.RuleA c) ↔ FirstBreaksA K ev c
+    fault-a = (by-rule-a, λ f. breaks-a c (f .inside) (passed-iff-lower c (omega arith) .1 (f .lower-a, f .lower-b)) (fails-iff (keepsA-is-rule-a K ev long c (f .inside)) .1 (f .broken)))
 
-  pub named-breaks-b : (c : ℕ) → verdict (allRows K ev) ≡ Refused (refusals.RuleB c) → FirstBreaksB K ev c
-  named-breaks-b c e =
-      let f = fault-b K ev c (K .size) e in
-      record {
-        inside = f .0;
-        lower-a = lower-rows-a c (f .0) (f .1);
-        lower-b = lower-rows-b c (f .0) (f .1);
-        kept = keepsA-is-rule-a K ev long c (f .0) .0 (f .2);
-        broken = λ r. clash (keepsB-is-rule-b K ev law c .1 r) (f .3);
-      }
-
-  -- and back: the first row at fault is named
-  kept-below : (c : ℕ) → c ≤ K .size → ((b : ℕ) → b < c → RuleA K (rows K ev) b) → ((b : ℕ) → b < c → RuleB K (rows K ev) b) → Passed K ev c
-  kept-below c h a b = record {
-    keeps-a = λ s l. keepsA-is-rule-a K ev long s (omega arith) .1 (a s l);
-    keeps-b = λ s l. keepsB-is-rule-b K ev law s .1 (b s l);
-  }
-
-  pub breaks-a-named : (c : ℕ) → FirstBreaksA K ev c → verdict (allRows K ev) ≡ Refused (refusals.RuleA c)
-  breaks-a-named c f =
-      sym (first-breaks-a K ev c (K .size) (f .inside) (kept-below c (omega (arith, f .inside)) (f .lower-a) (f .lower-b))
-      (not-true-false (keepsA K ev c) (λ e. f .broken (keepsA-is-rule-a K ev long c (f .inside) .0 e))))
-
-  pub breaks-b-named : (c : ℕ) → FirstBreaksB K ev c → verdict (allRows K ev) ≡ Refused (refusals.RuleB c)
-  breaks-b-named c f =
-      sym (first-breaks-b K ev c (K .size) (f .inside) (kept-below c (omega (arith, f .inside)) (f .lower-a) (f .lower-b))
-      (keepsA-is-rule-a K ev long c (f .inside) .1 (f .kept))
-      (not-true-false (keepsB K ev c) (λ e. f .broken (keepsB-is-rule-b K ev law c .0 e))))
+    pub fault-b : Fault K ev (K .size) (refusals.RuleB c) ↔ FirstBreaksB K ev c
+    fault-b = (
+      by-rule-b,
+      λ f. breaks-b c (f .inside) (passed-iff-lower c (omega arith) .1 (f .lower-a, f .lower-b)) (keepsA-is-rule-a K ev long c (f .inside) .1 (f .kept)) (fails-iff (keepsB-is-rule-b K ev law c) .1 (f .broken)),
+    )

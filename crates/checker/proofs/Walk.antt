@@ -19,7 +19,7 @@ use Rattle.checker.specs.Check.{allRows}
 use Rattle.checker.specs.Row.{Found}
 use Rattle.checker.specs.declared.Finding.{Finding}
 use Rattle.checker.specs.declared.Finding.the-variants.{BreaksA, BreaksB, Closed, Bounds}
-use Rattle.checker.proofs.Faults.{Passed, passed-none, passed-more, all-pass, first-breaks-a, first-breaks-b}
+use Rattle.checker.proofs.Faults.{Passed, passed-none, passed-more, breaks-a, breaks-b, all-pass, fault-named}
 use Rattle.checker.proofs.Meeting.{passed-meets}
 use Rattle.checker.proofs.LargestMet.{Met, met-none, met-closed, met-bounds, closed-keeps-b, unmet-keeps-b, met-breaks-b, largest-fits}
 use Rattle.counting.proofs.Tallies.{Tally, tally-none, tally-most}
@@ -47,13 +47,13 @@ module _ (K : Cells) (ev : List ℕ) (law : Lawful K) (long : length ev ≡ evid
   pub walk-breaks-a : (found : Finding) → found ≡ BreaksA → Found K ev c xs ys found → Refused (RuleA c) ≡ verdict (allRows K ev)
   walk-breaks-a found e g =
       let f : Found K ev c xs ys BreaksA = subst (Found K ev c xs ys) e g in
-      first-breaks-a K ev c (K .size) inside (w .passed) f
+      fault-named K ev (breaks-a c inside (w .passed) f)
 
   pub walk-breaks-b : (found : Finding) → found ≡ BreaksB → Found K ev c xs ys found → Refused (RuleB c) ≡ verdict (allRows K ev)
   walk-breaks-b found e g =
       let f : Found K ev c xs ys BreaksB = subst (Found K ev c xs ys) e g in
       let m = f .1 in
-      first-breaks-b K ev c (K .size) inside (w .passed) (f .0) (met-breaks-b K ev c (m .0) xs (m .1) (w .largest-met) (m .2))
+      fault-named K ev (breaks-b c inside (w .passed) (f .0) (met-breaks-b K ev c (m .0) xs (m .1) (w .largest-met) (m .2)))
 
   pub walk-closed : (found : Finding) → found ≡ Closed → Found K ev c xs ys found → Walked K ev (c + 1) ys rs
   walk-closed found e g =
