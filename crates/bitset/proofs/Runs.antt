@@ -25,10 +25,25 @@ module _ (p : ℕ) (f : ℕ → ℕ) (x : List ℕ) where
     after = λ i g. getD-set-other z q i v 0 (λ s. omega arith) ∙ run .after i (omega arith);
   }
 
+-- Where a loop stands that writes n words from place p on, one a turn: k of them are written.
+pub record Writing (p n : ℕ) (f : ℕ → ℕ) (x : List ℕ) (k : ℕ) (z : List ℕ) : Type 0 where
+  pub left : k ≤ n
+  pub run : Run p k f x z
+
+module _ {p n : ℕ} {f : ℕ → ℕ} {x : List ℕ} where
+  pub writing-none : Writing p n f x 0 x
+  writing-none = record { left = omega arith; run = run-none p f x }
+
+  -- the next word is stored, at place q
+  pub writing-more : (k q v : ℕ) (z : List ℕ) → k < n → p + n ≤ length x → q ≡ p + k → v ≡ f k → Writing p n f x k z → Writing p n f x (k + 1) (set z q v)
+  writing-more k q v z h room at e w = record { left = omega arith; run = run-more p f x k q v z at (omega arith) e (w .run) }
+
+  -- and the loop ends where all the words are written
+  pub writing-all : {k : ℕ} {z : List ℕ} → n ≤ k → Writing p n f x k z → Run p n f x z
+  writing-all {k} {z} h w =
+      let e : k ≡ n = omega arith in
+      subst (λ (m : ℕ). Run p m f x z) e (w .run)
+
 -- the words of a run from the first place on
 pub run-word : {k : ℕ} {f : ℕ → ℕ} {x z : List ℕ} → Run 0 k f x z → (i : ℕ) → i < k → getD z i 0 ≡ f i
 run-word {z = z} run i h = let there : i ≡ 0 + i = omega arith in ap (λ (n : ℕ). getD z n 0) there ∙ run .here i h
-
--- the loop ends where all the words are written
-pub run-ends : {p n : ℕ} {f : ℕ → ℕ} {x z : List ℕ} (k : ℕ) → k ≡ n → Run p k f x z → Run p n f x z
-run-ends {p} {f = f} {x} {z} k e run = subst (λ (n : ℕ). Run p n f x z) e run
