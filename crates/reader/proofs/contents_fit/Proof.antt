@@ -40,18 +40,12 @@ loop-holds c = (
   below-none _,
 )
 
-offset-in-requires : tie.Need-offset-in-requires Inv-loop μ-loop
-offset-in-requires c κs = omega arith
-
 returns-3 : tie.Need-returns-3 Inv-loop μ-loop
 returns-3 c =
     let o = c .before in
     let l = o .before .before .loop in
     unfit-offset _ _ (l .p) (o .offset-in .result) (l .start) (o .before .loop-test .taken) (o .offset-in .ensures) (l .inv .3)
     (λ e. omega (arith, e, c .if3 .taken))
-
-count-in-requires : tie.Need-count-in-requires Inv-loop μ-loop
-count-in-requires c κs = omega arith
 
 -- a count has 16 bits and a record 16 bytes at most
 fitting : (c : tie.After-record-size Inv-loop μ-loop) → c .before .count-in .result * c .record-size .result ≤ longestBody
@@ -62,12 +56,6 @@ mul-start c = omega (arith, fitting c)
 
 add-start : tie.Need-add-start Inv-loop μ-loop
 add-start c = omega (arith, fitting c)
-
-add-p : tie.Need-add-p Inv-loop μ-loop
-add-p c = omega arith
-
-loop-less : tie.Need-loop-less Inv-loop μ-loop
-loop-less c = omega arith
 
 loop-again : tie.Need-loop-again Inv-loop μ-loop
 loop-again c =
@@ -104,5 +92,5 @@ returns-5 c =
 pub contents-fit-spec : {M : Type 1} → statement M
 contents-fit-spec =
     tie.close
-    (tie.spec Inv-loop μ-loop returns (λ c κs. search needs) returns-2 loop-holds offset-in-requires returns-3 count-in-requires
-    (λ c. search needs) (λ c κs. search needs) mul-start add-start add-p loop-less loop-again returns-4 returns-5)
+    (tie.spec Inv-loop μ-loop returns (λ c κs. search needs) returns-2 loop-holds (λ c κs. search needs) returns-3 (λ c κs. search needs)
+    (λ c. search needs) (λ c κs. search needs) mul-start add-start (λ c. search needs) (λ c. search needs) loop-again returns-4 returns-5)

@@ -27,21 +27,10 @@ take-body-requires c κs =
     let l = c .before .before in
     (c .before .loop-test .taken, l .before .before .before .pre .0, l .loop .inv .2)
 
-same-length : tie.Need-same-length Inv-loop μ-loop
-same-length c =
-    let k = c .before .before .before in
-    k .take-body .kept .0 ∙ k .before .before .before .loop .inv .1
-
 returns : tie.Need-returns Inv-loop μ-loop
 returns c =
     let body = c .before .before .before .take-body in
     (sym (rw (not-true (body .result) (c .if1 .taken)) at (body .ensures)), λ e. absurd (false≢true e))
-
-add-p : tie.Need-add-p Inv-loop μ-loop
-add-p c = omega arith
-
-loop-less : tie.Need-loop-less Inv-loop μ-loop
-loop-less c = omega arith
 
 loop-again : tie.Need-loop-again Inv-loop μ-loop
 loop-again c =
@@ -61,4 +50,5 @@ returns-2 c =
 pub take-bodies-spec : {M : Type 1} → statement M
 take-bodies-spec =
     tie.close
-    (tie.spec Inv-loop μ-loop loop-holds take-body-requires same-length returns add-p loop-less loop-again (λ c. search needs) returns-2)
+    (tie.spec Inv-loop μ-loop loop-holds take-body-requires (λ c. search needs) returns (λ c. search needs) (λ c. search needs) loop-again
+    (λ c. search needs) returns-2)

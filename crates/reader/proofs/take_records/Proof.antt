@@ -99,19 +99,10 @@ faces-at-requires c κs =
 put-requires : tie.Need-put-requires Inv-loop μ-loop
 put-requires c κs = cell (c .before .before .before .before .before)
 
-add-low : tie.Need-add-low Inv-loop μ-loop
-add-low c = omega arith
-
 add-at : tie.Need-add-at Inv-loop μ-loop
 add-at c =
     let i = c .before .before .before .before .before .before .before .before .before .before .before in
     omega (arith, inside i, asked i .pre .3, i .before .before .before .face-place .ensures)
-
-add-i : tie.Need-add-i Inv-loop μ-loop
-add-i c = omega arith
-
-loop-less : tie.Need-loop-less Inv-loop μ-loop
-loop-less c = omega arith
 
 loop-again : tie.Need-loop-again Inv-loop μ-loop
 loop-again c =
@@ -144,4 +135,4 @@ take-records-spec =
     tie.close
     (tie.spec Inv-loop μ-loop count-in-requires face-place-requires offset-in-requires loop-holds two-at-requires (λ c. search needs)
     (λ c. search needs) returns (λ c. search needs) returns-2 dim-requires (λ c. search needs) returns-3 faces-at-requires put-requires
-    add-low add-at add-i loop-less loop-again (λ c. search needs) returns-4)
+    (λ c. search needs) add-at (λ c. search needs) (λ c. search needs) loop-again (λ c. search needs) returns-4)
