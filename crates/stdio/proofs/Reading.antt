@@ -6,7 +6,8 @@ use Prim.Native.Nat.{ℕ, _-_, _≤_}
 use native.Mathlib.Nat.{le-refl}
 use native.Mathlib.Omega.{arith}
 use lib.IntN.{ℤ}
-use lib.ListN.{length}
+use lib.ListN.{length, take}
+use lib.Seq.{length-take-le}
 use borrow.Rule.Slice.PartMut.{midOf, putMid, mid-len, take-put}
 use mir.Syntax.{w64}
 use mir.Val.{SFits}
@@ -51,3 +52,8 @@ has-ended done t r zs xs ys h e l s =
       inside = λ n q. let all : n ≡ done = h .ended n (e ∙ ap Over q) in omega (arith, all, l, h .sized);
       sized = h .sized ∙ s;
     }
+
+-- What a program takes of the buffer, the n bytes that were read: they lie inside it, so they are n bytes.
+module _ {r : Read} {xs ys : List ℕ} (h : HasRead r xs ys) where
+  pub part-long : (n : ℕ) → r ≡ Bytes n → n ≡ length (take n ys)
+  part-long n e = sym (length-take-le n ys (h .inside n e))
