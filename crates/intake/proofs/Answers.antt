@@ -1,6 +1,6 @@
 -- What the call answers and leaves, way by way out of the code, whatever the text is said to read as.
 -- What carries it: each test decides its own ground, in the order of the four; only the length's has the number 1. Assumes nothing.
-use mathlib.Core.Path.{_≡_, refl, sym, ap, ap₂, subst, _∙_}
+use mathlib.Core.Path.{_≡_, refl, sym, ap, subst, subst₂, _∙_}
 use mathlib.Core.Bool.{Bool, true, false, _&&_, not}
 use mathlib.Core.List.{List, [], _∷_}
 use Prim.Native.Nat.{ℕ, _/_, _%_, _≤_, _<_}
@@ -100,42 +100,31 @@ module _ (t : List ℕ) (s : sized t ≡ true) where
         go (none h) = record { answer = rw s refl; left = d ∙ rw s refl }
 
     module _ (n : ℕ) (ls : List (List ℕ)) (reads : IsList text n ls) where
-      -- an index does not fit
-      pub imports-index : listFits n ls ≡ false → u ≡ replicate (length t) freeMark → Imports t text (Refused BadIndex) u
-      imports-index bad d = record { ends = go }
+      -- a text reads as one list, so what holds of this one holds whatever list it is said to read as
+      by-list : (r : Verdict) → ((h : IsList text n ls) → Ends (verdictBy t (list n ls h)) (leavesBy t (list n ls h)) r u) → Imports t text r u
+      by-list r f = record { ends = go }
         where
-          go : (w : Reading text) → Ends (verdictBy t w) (leavesBy t w) (Refused BadIndex) u
+          go : (w : Reading text) → Ends (verdictBy t w) (leavesBy t w) r u
           go (none h) = absurd (h n ls reads)
           go (list n′ ls′ h) =
               let e = reading-unique text n n′ ls ls′ reads h in
-              let z : listFits n′ ls′ ≡ false = sym (ap₂ listFits (e .0) (e .1)) ∙ bad in
-              record { answer = rw (s, z) refl; left = d ∙ rw (s, z) refl }
+              subst₂ (λ m ks. (g : IsList text m ks) → Ends (verdictBy t (list m ks g)) (leavesBy t (list m ks g)) r u) (e .0) (e .1) f h
+
+      -- an index does not fit
+      pub imports-index : listFits n ls ≡ false → u ≡ replicate (length t) freeMark → Imports t text (Refused BadIndex) u
+      imports-index bad d = by-list (Refused BadIndex) (λ h. record { answer = rw (s, bad) refl; left = d ∙ rw (s, bad) refl })
 
       module _ (fit : listFits n ls ≡ true) where
         -- more cells than the room
         pub imports-full : cellsOf t < length (cellList n ls) → u ≡ replicate (length t) freeMark → Imports t text (Refused NoRoom) u
-        imports-full many d = record { ends = go }
-          where
-            go : (w : Reading text) → Ends (verdictBy t w) (leavesBy t w) (Refused NoRoom) u
-            go (none h) = absurd (h n ls reads)
-            go (list n′ ls′ h) =
-                let e = reading-unique text n n′ ls ls′ reads h in
-                let z : listFits n′ ls′ ≡ true = sym (ap₂ listFits (e .0) (e .1)) ∙ fit in
-                let l : length (cellList n ls) ≡ length (cellList n′ ls′) = ap length (ap₂ cellList (e .0) (e .1)) in
-                let y : ltb (cellsOf t) (length (cellList n′ ls′)) ≡ true = lt-ltb (cellsOf t) (length (cellList n′ ls′)) (omega (arith, many, l)) in
-                record { answer = rw (s, z, y) refl; left = d ∙ rw (s, z, y) refl }
+        imports-full many d =
+            let y : ltb (cellsOf t) (length (cellList n ls)) ≡ true = lt-ltb (cellsOf t) (length (cellList n ls)) many in
+            by-list (Refused NoRoom) (λ h. record { answer = rw (s, fit, y) refl; left = d ∙ rw (s, fit, y) refl })
 
         pub imports-all : length (cellList n ls) ≤ cellsOf t → u ≡ listTable (cellsOf t) (cellList n ls) → Imports t text Accepted u
-        imports-all few d = record { ends = go }
-          where
-            go : (w : Reading text) → Ends (verdictBy t w) (leavesBy t w) Accepted u
-            go (none h) = absurd (h n ls reads)
-            go (list n′ ls′ h) =
-                let e = reading-unique text n n′ ls ls′ reads h in
-                let z : listFits n′ ls′ ≡ true = sym (ap₂ listFits (e .0) (e .1)) ∙ fit in
-                let l : length (cellList n ls) ≡ length (cellList n′ ls′) = ap length (ap₂ cellList (e .0) (e .1)) in
-                let y : ltb (cellsOf t) (length (cellList n′ ls′)) ≡ false = le-ltb (cellsOf t) (length (cellList n′ ls′)) (omega (arith, few, l)) in
-                record { answer = rw (s, z, y) refl; left = d ∙ ap (listTable (cellsOf t)) (ap₂ cellList (e .0) (e .1)) ∙ rw (s, z, y) refl }
+        imports-all few d =
+            let y : ltb (cellsOf t) (length (cellList n ls)) ≡ false = le-ltb (cellsOf t) (length (cellList n ls)) few in
+            by-list Accepted (λ h. record { answer = rw (s, fit, y) refl; left = d ∙ rw (s, fit, y) refl })
 
 -- ---- what the scan says, case by case
 
