@@ -25,26 +25,22 @@ returns c =
     (sym (refused-length (a .t .now) (a .evidence .now) (sym (f .lengths-fit .ensures) ∙ not-true _ (c .before .if1 .taken))))
     (c .refused .ensures .0) (c .refused .ensures .1 .0) (c .refused .ensures .1 .1)
 
--- past the first test the lengths fit
-fit : (c : tie.Else1) → lengthsFit (c .before .before .before .before .args .t .now) (c .before .before .before .before .args .evidence .now) ≡ true
-fit c = sym (c .before .lengths-fit .ensures) ∙ not-false _ (c .if1 .left)
+-- what the function was asked, seen from past its first test
+abbrev asked : tie.Else1 → tie.Start
+asked e = e .before .before .before .before
+
+-- past that test the lengths fit
+fit : (e : tie.Else1) → let a = asked e .args in lengthsFit (a .t .now) (a .evidence .now) ≡ true
+fit e = sym (e .before .lengths-fit .ensures) ∙ not-false _ (e .if1 .left)
 
 -- where the audit accepts the table is valid
-valid : (c : tie.After-enum-told) →
-    let a = c .before .before .before .before .before .before .before in
-    Valid (a .args .t .now)
+valid : (c : tie.After-enum-told) → Valid (asked (c .before .before .before) .args .t .now)
 valid c =
     let d = c .before .before in
-    let a = d .before .before .before .before .before in
-    audit-accepts-iff-valid (a .args .t .now) .0 (sym (d .audit .ensures) ∙ c .enum-told .given .1)
+    audit-accepts-iff-valid (asked (d .before) .args .t .now) .0 (sym (d .audit .ensures) ∙ c .enum-told .given .1)
 
-long : (c : tie.After-enum-told) →
-    let a = c .before .before .before .before .before .before .before in
-    length (a .args .evidence .now) ≡ evidenceWords (cells (a .args .t .now))
-long c =
-    let d = c .before .before in
-    let a = d .before .before .before .before .before in
-    fitting-length (a .args .t .now) (a .args .evidence .now) (fit (d .before))
+long : (c : tie.After-enum-told) → let a = asked (c .before .before .before) .args in length (a .evidence .now) ≡ evidenceWords (cells (a .t .now))
+long c = let e = c .before .before .before in fitting-length (asked e .args .t .now) (asked e .args .evidence .now) (fit e)
 
 check-rows-requires : tie.Need-check-rows-requires
 check-rows-requires c κs = (valid-is-frame _ (valid c), long c)
@@ -55,7 +51,7 @@ returns-2 c = rows-answer _ _ _ (valid (c .before)) (long (c .before)) (c .check
 returns-3 : tie.Need-returns-3
 returns-3 c =
     let d = c .before .before .before .before in
-    let a = d .before .before .before .before .before .args in
+    let a = asked (d .before) .args in
     refused-answer (cells (a .t .now)) (a .evidence .now) _ _ _
     (audit-refuses (a .t .now) (a .evidence .now) _ (fit (d .before)) (sym (c .before .before .valid .given .1) ∙ d .audit .ensures))
     (c .refused2 .ensures .0) (c .refused2 .ensures .1 .0) (c .refused2 .ensures .1 .1)

@@ -18,16 +18,18 @@ use Rattle.checker.proofs.LiveSets.{row-within}
 use Rattle.checker.proofs.row_keeps.Statement.{statement}
 use Rattle.checker.proofs.row_keeps.Tie as tie
 
+-- what the function was asked, seen from past its first test
+abbrev asked : tie.Else1 → tie.Start
+asked e = e .before .before .before .before .before
+
 -- past the first test the number has a dimension, and so is live
 level : (c : tie.Else1) → c .before .dim .result ≤ top
 level c = omega (arith, c .if1 .left)
 
-living : (c : tie.Else1) →
-    let s = c .before .before .before .before .before in
-    cells (s .args .t .now) .live (s .args .c) ≡ true
-living c =
-    let a = c .before .before .before .before .before in
-    a .pre .0 .living (a .args .c) (a .pre .1 .0) (omega (arith, level c, c .before .dim .ensures))
+living : (e : tie.Else1) → let a = asked e .args in cells (a .t .now) .live (a .c) ≡ true
+living e =
+    let a = asked e in
+    a .pre .0 .living (a .args .c) (a .pre .1 .0) (omega (arith, level e, e .before .dim .ensures))
 
 returns : tie.Need-returns
 returns c =
@@ -40,13 +42,13 @@ returns c =
 returns-2 : tie.Need-returns-2
 returns-2 c =
     let e = c .before .before in
-    let a = e .before .before .before .before .before .args in
+    let a = asked e .args in
     no-own (cells (a .t .now)) (a .c) (a .row .now) (living e) (sym (c .before .has .ensures) ∙ not-true _ (c .if2 .taken))
 
 within-requires : tie.Need-within-requires
 within-requires c κs =
     let e = c .before .before .before in
-    let a = e .before .before .before .before .before in
+    let a = asked e in
     let wide = length-row fullWidth (a .args .lives .now) (e .before .dim .result) (omega (arith, level e, a .pre .1 .1 .1 .long)) in
     omega (arith, a .pre .1 .1 .0, ap length (c .row .ensures), wide)
 
@@ -55,7 +57,7 @@ returns-3 c =
     let r = c .before in
     let h = r .before .before in
     let e = h .before in
-    let a = e .before .before .before .before .before in
+    let a = asked e in
     let inside = subst (λ (x : List ℕ). IsWithin (a .args .row .now) x (c .within .result)) (r .row .ensures) (c .within .ensures) in
     row-within (cells (a .args .t .now)) (a .args .c) (a .args .row .now) (a .args .lives .now) (living e) (a .pre .1 .1 .0) (a .pre .1 .1 .1)
     (sym (h .has .ensures) ∙ not-false _ (r .before .if2 .left)) (e .before .dim .result) (e .before .dim .ensures) (level e) _ inside
