@@ -23,7 +23,7 @@ returns c =
     (c .if1 .taken)
 
 loop-again : tie.Need-loop-again Inv-loop μ-loop
-loop-again c = (omega arith, below-more _ _ (c .before .before .before .before .before .loop .inv .1) (c .if1 .left))
+loop-again c = let l = c .before .before .before .before .before in (omega arith, below-more _ _ (l .loop .inv .1) (c .if1 .left))
 
 returns-2 : tie.Need-returns-2 Inv-loop μ-loop
 returns-2 c = all-words-inside (c .before .before .args .xs .now) (c .before .before .args .ys .now) (c .before .loop .k) (c .loop-test .left) (c .before .loop .inv .1)

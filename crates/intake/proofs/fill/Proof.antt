@@ -20,7 +20,7 @@ start e = e .before .before .before .before .before
 take-points-requires : tie.Need-take-points-requires
 take-points-requires c κs =
     let e = c .before in
-    let s = e .before .before .before .before .before in
+    let s = start e in
     (omega (arith, e .if1 .left, e .before .room .ensures), omega (arith, e .if1 .left, e .before .room .ensures, s .pre .0), s .pre .1)
 
 take-lines-requires : tie.Need-take-lines-requires

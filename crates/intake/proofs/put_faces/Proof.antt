@@ -36,13 +36,15 @@ face-numbers-requires c κs =
     let l = i .before in
     (omega (arith, low i), omega (arith, l .loop .inv .1 .inside, l .before .before .pre .1))
 
+-- the turn, seen from where its face numbers are found
+abbrev turn : tie.After-face-numbers Inv-loop μ-loop → tie.In-loop Inv-loop μ-loop
+turn n = n .before .before .before .before .before .before
+
 put-faces-requires : tie.Need-put-faces-requires Inv-loop μ-loop
-put-faces-requires c κs = low (c .before .before .before .before .before .before .before)
+put-faces-requires c κs = low (turn (c .before))
 
 loop-less : tie.Need-loop-less Inv-loop μ-loop
-loop-less c =
-    let i = c .before .before .before .before .before .before .before .before .before .before in
-    omega (arith, i .loop-test .taken)
+loop-less c = omega (arith, turn (c .before .before .before .before) .loop-test .taken)
 
 loop-again : tie.Need-loop-again Inv-loop μ-loop
 loop-again c =

@@ -27,24 +27,27 @@ faces-requires : tie.Need-faces-requires Inv-loop μ-loop
 faces-requires c κs = let p = c .before .before .before .before .before .before .pre in omega (arith, p .0, p .1)
 
 -- places that a turn looks back at
+abbrev counted : tie.At-loop Inv-loop μ-loop → tie.After-used Inv-loop μ-loop
+counted l = l .before .before .before .before .before
+
 abbrev cell : tie.At-loop Inv-loop μ-loop → tie.Else1 Inv-loop μ-loop
-cell l = l .before .before .before .before .before .before
+cell l = counted l .before
 
 abbrev turn : tie.After-take-in Inv-loop μ-loop → tie.In-loop Inv-loop μ-loop
 turn k = k .before .before .before
 
 -- the place is one of the cell's
 place : (i : tie.In-loop Inv-loop μ-loop) → i .before .loop .j < used (cell (i .before) .before .dim .result)
-place i = omega (arith, i .loop-test .taken, i .before .before .before .before .before .before .used .ensures .0)
+place i = omega (arith, i .loop-test .taken, counted (i .before) .used .ensures .0)
 
 loop-holds : tie.Need-loop-holds Inv-loop μ-loop
-loop-holds c = (refl, facets-none _ _ _ _ (c .before .before .before .before .before .before .before .before .before .pre .1))
+loop-holds c = let s = c .before .before .before .before .before .before .before .before .before in (refl, facets-none _ _ _ _ (s .pre .1))
 
 without-requires : tie.Need-without-requires Inv-loop μ-loop
-without-requires c κs = omega (arith, c .loop-test .taken, (c .before .before .before .before .before .before .used .ensures) .1)
+without-requires c κs = omega (arith, c .loop-test .taken, counted (c .before) .used .ensures .1)
 
 sub-take-in : tie.Need-sub-take-in Inv-loop μ-loop
-sub-take-in c = let e = c .before .before .before .before .before .before .before .before .before in omega (arith, e .if1 .left)
+sub-take-in c = omega (arith, cell (c .before .before .before) .if1 .left)
 
 take-in-requires : tie.Need-take-in-requires Inv-loop μ-loop
 take-in-requires c κs = let l = c .before .before .before .loop in omega (arith, l .inv .0, l .inv .1 .most)
@@ -77,7 +80,7 @@ returns-3 c =
     let l = c .before in
     let e = cell l in
     facets-all _ _ _ _ _ _ (e .before .dim .ensures) (l .before .before .before .faces .ensures) (e .if1 .left) _ _ _ (l .loop .inv .1)
-    (omega (arith, c .loop-test .left, l .before .before .before .before .before .used .ensures .0))
+    (omega (arith, c .loop-test .left, counted l .used .ensures .0))
 
 pub take-facets-spec : {M : Type 1} → statement M
 take-facets-spec =

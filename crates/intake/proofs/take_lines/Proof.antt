@@ -19,9 +19,6 @@ abbrev μ-loop : tie.MeasureT-loop
 loop-holds : tie.Need-loop-holds Inv-loop μ-loop
 loop-holds c = let s = c .before .before .before .before in (refl, reached-none _ _ _ _ _ (s .pre .3) (s .pre .2))
 
-read-line-requires : tie.Need-read-line-requires Inv-loop μ-loop
-read-line-requires c κs = omega arith
-
 -- where the function starts, seen from the loop
 abbrev asked : tie.At-loop Inv-loop μ-loop → tie.Start Inv-loop μ-loop
 asked l = l .before .before .before .before .before
@@ -78,5 +75,5 @@ returns-2 c = all-reached _ _ _ _ _ _ (c .before .loop .inv .1) (c .loop-test .l
 pub take-lines-spec : {M : Type 1} → statement M
 take-lines-spec =
     tie.close
-    (tie.spec Inv-loop μ-loop (λ c κs. search needs) loop-holds read-line-requires take-line-requires (λ c. search needs) returns loop-less
-    loop-again (λ c. search needs) returns-2)
+    (tie.spec Inv-loop μ-loop (λ c κs. search needs) loop-holds (λ c κs. search needs) take-line-requires (λ c. search needs) returns
+    loop-less loop-again (λ c. search needs) returns-2)

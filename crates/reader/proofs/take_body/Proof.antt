@@ -62,7 +62,8 @@ returns-6 c = rw (c .before .before .before .before .match .keys6) (c .before .b
 
 returns-7 : tie.Need-returns-7
 returns-7 c =
-    let last : c .before .before .before .before .before .before .before .args .p ≡ 6 = omega arith in
+    let s = c .before .before .before .before .before .before .before in
+    let last : s .args .p ≡ 6 = omega arith in
     rw last (c .before .before .take-records7 .ensures)
 
 pub take-body-spec : {M : Type 1} → statement M
