@@ -50,21 +50,24 @@ cells-holds c = (refl, c .cleared .ensures .1)
 
 loop-holds : tie.Need-loop-holds If μf Il μl Ij μj Ic μc
 loop-holds c =
-    let i = c .before .before .before .before .before .before .before .cells .inv in (
-      i .0,
+    let d = c .before .before .before in
+    let r = d .before .before in
+    let i = r .before in
+    let a = i .before in (
+      a .cells .inv .0,
       record {
         cell = record {
-          cells = c .before .before .before .before .before .before .before .before .before .room .ensures;
-          inside = c .before .before .before .before .before .before .cells-test .taken;
-          dimension = c .before .before .before .dim .ensures;
+          cells = a .before .before .room .ensures;
+          inside = i .cells-test .taken;
+          dimension = d .dim .ensures;
           places-used = c .before .before .used .ensures .0;
           places-law = c .before .law-places .ensures .0;
           fits = c .before .before .used .ensures .1;
-          fewer = omega (arith, c .before .before .used .ensures .0, c .before .law-places .ensures .0, law-places-fit (c .before .before .before .dim .result));
+          fewer = omega (arith, c .before .before .used .ensures .0, c .before .law-places .ensures .0, law-places-fit (d .dim .result));
           by-value = c .faces .ensures;
         };
-        earlier = i .1;
-        recorded = sym (c .before .before .before .before .before .record-sound .ensures) ∙ not-false _ (c .before .before .before .before .if1 .left);
+        earlier = a .cells .inv .1;
+        recorded = sym (r .record-sound .ensures) ∙ not-false _ (d .before .if1 .left);
       },
       scan-zero _,
     )
@@ -82,18 +85,30 @@ loop2-holds c =
 loop3-holds : tie.Need-loop3-holds If μf Il μl Ij μj Ic μc
 loop3-holds c = (c .before .loop2 .inv .0, scan-zero _)
 
+-- where a pair of the law is looked at: the turn of its later place, and the record with all its face places passed
+abbrev later : tie.In-loop3 If μf Il μl Ij μj Ic μc → tie.In-loop2 If μf Il μl Ij μj Ic μc
+later i = i .before .before
+
+abbrev passed : tie.In-loop2 If μf Il μl Ij μj Ic μc → tie.At-loop If μf Il μl Ij μj Ic μc
+passed j = j .before .before .before
+
 face-requires : tie.Need-face-requires If μf Il μl Ij μj Ic μc
-face-requires c κs = (face-known (c .before .before .before .before .before .loop .inv .1) (c .before .before .before .loop2 .inv .1) _ (c .before .before .loop2-test .taken), search needs)
+face-requires c κs =
+    let j = later c in
+    (face-known (passed j .loop .inv .1) (j .before .loop2 .inv .1) _ (j .loop2-test .taken), search needs)
 
 face-requires-2 : tie.Need-face-requires-2 If μf Il μl Ij μj Ic μc
 face-requires-2 c κs =
-    let known = face-known (c .before .before .before .before .before .before .loop .inv .1) (c .before .before .before .before .loop2 .inv .1) in
-    (omega (arith, known _ (c .before .before .before .loop2-test .taken), known (c .before .before .loop3 .l) (omega arith)), search needs)
+    let j = later (c .before) in
+    let known = face-known (passed j .loop .inv .1) (j .before .loop2 .inv .1) in
+    (omega (arith, known _ (j .loop2-test .taken), known (c .before .before .loop3 .l) (omega arith)), search needs)
 
 loop3-again : tie.Need-loop3-again If μf Il μl Ij μj Ic μc
 loop3-again c =
-    let i = c .before .before .before .before .loop3 .inv in
-    (i .0, pair-passes (c .before .before .before .before .before .before .before .before .loop .inv .1) (c .before .before .before .before .before .before .loop2 .inv .1) _ _ _ _ (c .before .before .before .before .before .loop2-test .taken) (c .before .before .before .loop3-test .taken) (i .1) (c .before .before .face .ensures) (c .before .face2 .ensures) (c .if4 .left))
+    let i = c .before .before .before in
+    let j = later i in
+    let k = i .before .loop3 .inv in
+    (k .0, pair-passes (passed j .loop .inv .1) (j .before .loop2 .inv .1) _ _ _ _ (j .loop2-test .taken) (i .loop3-test .taken) (k .1) (c .before .before .face .ensures) (c .before .face2 .ensures) (c .if4 .left))
 
 loop2-again : tie.Need-loop2-again If μf Il μl Ij μj Ic μc
 loop2-again c =
@@ -113,7 +128,8 @@ returns c =
 
 returns-2 : tie.Need-returns-2 If μf Il μl Ij μj Ic μc
 returns-2 c =
-    stops-at-record _ _ _ (c .before .before .before .before .before .room .ensures) (c .before .before .cells-test .taken) (c .before .before .before .cells .inv .1)
+    let i = c .before .before in
+    stops-at-record _ _ _ (i .before .before .before .room .ensures) (i .cells-test .taken) (i .before .cells .inv .1)
     (sym (c .before .record-sound .ensures) ∙ not-true _ (c .if1 .taken))
 
 returns-3 : tie.Need-returns-3 If μf Il μl Ij μj Ic μc
@@ -128,8 +144,10 @@ returns-4 c =
 
 returns-5 : tie.Need-returns-5 If μf Il μl Ij μj Ic μc
 returns-5 c =
-    let k = c .before .before .before .before .before .before .loop2 .inv in
-    stops-at-law (c .before .before .before .before .before .before .before .before .loop .inv .1) (k .1) _ _ _ _ (c .before .before .before .before .before .loop2-test .taken) (c .before .before .before .loop3-test .taken) (c .before .before .before .before .loop3 .inv .1) (c .before .before .face .ensures) (c .before .face2 .ensures) (k .2) (c .if4 .taken)
+    let i = c .before .before .before in
+    let j = later i in
+    let k = j .before .loop2 .inv in
+    stops-at-law (passed j .loop .inv .1) (k .1) _ _ _ _ (j .loop2-test .taken) (i .loop3-test .taken) (i .before .loop3 .inv .1) (c .before .before .face .ensures) (c .before .face2 .ensures) (k .2) (c .if4 .taken)
 
 pub first-breach-spec : {M : Type 1} → statement M
 first-breach-spec =

@@ -26,8 +26,9 @@ loop-holds c = (search needs, search needs, λ k h u. omega (arith, c .used .ens
 
 returns-2 : tie.Need-returns-2 Inv-loop μ-loop
 returns-2 c =
-    let l = c .before .before .before .loop in
-    sym (not-unused _ _ _ (c .before .before .before .before .before .before .dim .ensures) (l .j) (l .inv .1) (omega arith) (λ e. c .if3 .taken (c .before .face .ensures ∙ e)))
+    let a = c .before .before .before in
+    let l = a .loop in
+    sym (not-unused _ _ _ (a .before .before .before .dim .ensures) (l .j) (l .inv .1) (omega arith) (λ e. c .if3 .taken (c .before .face .ensures ∙ e)))
 
 loop-again : tie.Need-loop-again Inv-loop μ-loop
 loop-again c = (

@@ -14,25 +14,29 @@ returns c =
     let a = c .before .before .before .before .before .args in
     other-length (a .t .now) (a .marks .now) (λ e. omega (arith, c .if1 .taken))
 
-right : (c : tie.Else1) → let a = c .before .before .before .before .before .args in length (a .marks .now) ≡ wordsFor (cellsOf (a .t .now))
-right c = omega arith
+-- what the function was asked, seen from past its first test
+abbrev asked : tie.Else1 → tie.Start
+asked e = e .before .before .before .before .before
+
+right : (e : tie.Else1) → let a = asked e .args in length (a .marks .now) ≡ wordsFor (cellsOf (a .t .now))
+right e = omega arith
 
 asked-requires : tie.Need-asked-requires
 asked-requires c κs =
     let d = c .before .before in
-    let a = d .before .before .before .before .before .before .args in
+    let a = asked (d .before) .args in
     few-words (a .t .now) (a .marks .now) (right (d .before)) (sym (d .audit .ensures) ∙ c .enum-told .given .1)
 
 returns-2 : tie.Need-returns-2
 returns-2 c =
     let d = c .before .before .before in
-    let a = d .before .before .before .before .before .before .args in
+    let a = asked (d .before) .args in
     audit-refused (a .t .now) (a .marks .now) (right (d .before)) _ (sym (d .audit .ensures) ∙ c .before .valid .given .1)
 
 returns-3 : tie.Need-returns-3
 returns-3 c =
     let d = c .before .before .before in
-    let a = d .before .before .before .before .before .before .args in
+    let a = asked (d .before) .args in
     audit-passed (a .t .now) (a .marks .now) (right (d .before)) (sym (d .audit .ensures) ∙ c .before .enum-told .given .1) _ (c .asked .ensures)
 
 pub judged-spec : {M : Type 1} → statement M

@@ -34,8 +34,9 @@ loop-again c =
 
 returns : tie.Need-returns Inv-loop μ-loop
 returns c =
-    let l = c .before .loop in
-    giving-ends _ _ (l .numbers) _ (l .last) (l .s) _ (l .inv .1) (omega arith) (c .before .before .before .before .before .pre .3)
+    let p = c .before in
+    let l = p .loop in
+    giving-ends _ _ (l .numbers) _ (l .last) (l .s) _ (l .inv .1) (omega arith) (p .before .before .before .before .pre .3)
 
 pub cone-numbers-spec : {M : Type 1} → statement M
 cone-numbers-spec =

@@ -18,16 +18,22 @@ abbrev μ-loop : tie.MeasureT-loop
 loop-holds : tie.Need-loop-holds Inv-loop μ-loop
 loop-holds c = (search needs, raised-starts _ _ _ _ (c .before .before .pre .0))
 
+-- what the function was asked, seen from its loop
+abbrev asked : tie.At-loop Inv-loop μ-loop → tie.Start Inv-loop μ-loop
+asked p = p .before .before .before
+
 put-cone-requires : tie.Need-put-cone-requires Inv-loop μ-loop
 put-cone-requires c κs =
-    let l = c .before .before .before .before .loop in
-    let q = c .before .before .before .before .before .before .before .pre in
+    let p = c .before .before .before .before in
+    let l = p .loop in
+    let q = asked p .pre in
     raised-coneable _ _ _ _ (q .0) (l .t) (l .s) (l .inv .1) (omega (arith, q .1 .inside)) (sym (c .before .before .has .ensures) ∙ c .before .if1 .taken)
 
 loop-again : tie.Need-loop-again Inv-loop μ-loop
 loop-again c =
-    let l = c .before .before .before .loop in
-    let q = c .before .before .before .before .before .before .pre in
+    let p = c .before .before .before in
+    let l = p .loop in
+    let q = asked p .pre in
     let ready = q .0 in (
       search needs,
       ⊎-elim
@@ -38,14 +44,15 @@ loop-again c =
 
 put-requires : tie.Need-put-requires Inv-loop μ-loop
 put-requires c κs =
-    let l = c .before .before .loop in
-    apex-fits _ _ _ _ (c .before .before .before .before .before .pre .0) (l .t) (l .s) (l .inv .1)
+    let p = c .before .before in
+    let l = p .loop in
+    apex-fits _ _ _ _ (asked p .pre .0) (l .t) (l .s) (l .inv .1)
 
 returns : tie.Need-returns Inv-loop μ-loop
 returns c =
     let p = c .before .before .before .before .before in
     let l = p .loop in
-    let a = p .before .before .before in
+    let a = asked p in
     raised-ends _ _ _ _ (a .pre .0) (l .t) (l .s) (l .inv .1) _ (omega arith) (a .pre .1) _ (c .before .before .put .ensures)
 
 pub raise-spec : {M : Type 1} → statement M
