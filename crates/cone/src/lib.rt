@@ -16,7 +16,7 @@ use calls::Verdict;
 use table::Table;
 
 // Refused with 1, 2, 3, 7 or 8, in that order. The room is asked once the free numbers are known.
-fn judged(t: &[u16], marks: &[u64]) -> Verdict
+fn judge(t: &[u16], marks: &[u64]) -> Verdict
     ensures { λ r. ⌜ r ≡ verdict (earlyGrounds (now (t .entry)) (now (marks .entry))) ⌝ }
 {
     if marks.len() != bitset::words_for(Table::room(t)) {
@@ -50,7 +50,7 @@ fn built(t: &mut [u16], marks: &[u64]) -> Named
 pub fn cone(t: &mut [u16], marks: &[u64]) -> Named
     ensures { λ r. ⌜ Ends (coneAnswer (now (t .entry)) (now (marks .entry))) (coneLeaves (now (t .entry)) (now (marks .entry))) r (now (t .exit)) ⌝ }
 {
-    let early = judged(t, marks);
+    let early = judge(t, marks);
     match early {
         Verdict::Refused(r) => Named::NoCell(r),
         Verdict::Accepted => built(t, marks),

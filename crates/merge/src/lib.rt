@@ -30,8 +30,8 @@ fn same_faces(t: &[u16], a: usize, b: usize) -> bool
     true
 }
 
-// A face word, with the kept number for the freed one.
-fn sent(f: u16, kept: u16, gone: u16) -> u16
+// A number, with the kept one for the one that goes. A merge sends face words so, a weld the words of its map.
+pub fn sent(f: u16, kept: u16, gone: u16) -> u16
     ensures { λ r. ⌜ r ≡ sentTo kept gone f ⌝ }
 {
     if f == gone {
@@ -121,7 +121,7 @@ pub fn joinable(t: &[u16], a: u16, b: u16) -> Verdict
 }
 
 // What a merge of a and b is answered: where they may be joined, their faces decide.
-fn verdict_of(t: &[u16], a: u16, b: u16) -> Verdict
+fn judge(t: &[u16], a: u16, b: u16) -> Verdict
     ensures { λ r. ⌜ r ≡ mergeVerdict (now (t .entry)) a b ⌝ }
 {
     let found = joinable(t, a, b);
@@ -141,7 +141,7 @@ fn verdict_of(t: &[u16], a: u16, b: u16) -> Verdict
 pub fn merge(t: &mut [u16], a: u16, b: u16) -> Named
     ensures { λ r. ⌜ Ends (mergeAnswer (now (t .entry)) a b) (mergeLeaves (now (t .entry)) a b) r (now (t .exit)) ⌝ }
 {
-    let found = verdict_of(t, a, b);
+    let found = judge(t, a, b);
     match found {
         Verdict::Refused(r) => Named::NoCell(r),
         Verdict::Accepted => {

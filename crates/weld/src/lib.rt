@@ -8,7 +8,7 @@ ghost use Rattle.table.specs.Table.{cellsOf, dim as dimOf, Live, Valid};
 ghost use Rattle.table.specs.Records.{Stored};
 ghost use Rattle.calls.specs.Calls.{verdict, Ends};
 ghost use Rattle.merge.specs.Rename.{renamed};
-ghost use Rattle.merge.specs.Writing.{Joinable, sent as sentTo};
+ghost use Rattle.merge.specs.Writing.{Joinable};
 ghost use Rattle.weld.specs.Joins.{joined, joinFaces, joinCell, joinLevel, joinLevels, weldMap};
 ghost use Rattle.weld.specs.Maps.{heldBy, Maps, Ready, Becomes, Sent, Renamable, renamedRecord};
 ghost use Rattle.weld.specs.Call.{weldAnswer, weldLeaves};
@@ -16,23 +16,13 @@ use calls::Named;
 use calls::Verdict;
 use table::Table;
 
-// A number, with the kept one for the one that goes.
-fn sent(f: u16, kept: u16, gone: u16) -> u16
-    ensures { λ r. ⌜ r ≡ sentTo kept gone f ⌝ }
-{
-    if f == gone {
-        return kept;
-    }
-    f
-}
-
 // Every one of the first n words that is the number gone becomes kept. Each word is written, changed or not: so many go at once.
 fn send(k: &mut [u16], n: usize, kept: u16, gone: u16)
     requires { ⌜ n ≤ length (now k) ⌝ }
     ensures { λ _. ⌜ Sent kept gone n (now (k .entry)) (now (k .exit)) ⌝ }
 {
     for c in 0..n {
-        k[c] = sent(k[c], kept, gone);
+        k[c] = merge::sent(k[c], kept, gone);
     }
 }
 

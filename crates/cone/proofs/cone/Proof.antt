@@ -6,12 +6,12 @@ use Rattle.cone.proofs.cone.Statement.{statement}
 use Rattle.cone.proofs.cone.Tie as tie
 
 built-requires : tie.Need-built-requires
-built-requires c κs = sym (c .before .before .before .judged .ensures) ∙ c .before .enum-told .given .1
+built-requires c κs = sym (c .before .before .before .judge .ensures) ∙ c .before .enum-told .given .1
 
 returns : tie.Need-returns
 returns c =
     let a = c .before .before .before .before .before .before .before .args in
-    refused-early (a .t .now) (a .marks .now) _ (sym (c .before .before .before .judged .ensures) ∙ c .before .early .given .1)
+    refused-early (a .t .now) (a .marks .now) _ (sym (c .before .before .before .judge .ensures) ∙ c .before .early .given .1)
 
 pub cone-spec : {M : Type 1} → statement M
 cone-spec =

@@ -15,7 +15,7 @@ abbrev asked : tie.After-enum-told → tie.Start
 asked c = c .before .before .before .before .before
 
 accepted : (c : tie.After-enum-told) → mergeVerdict (asked c .args .t .now) (asked c .args .a) (asked c .args .b) ≡ Accepted
-accepted c = sym (c .before .before .verdict-of .ensures) ∙ c .enum-told .given .1
+accepted c = sym (c .before .before .judge .ensures) ∙ c .enum-told .given .1
 
 mergeable : (c : tie.After-enum-told) → Mergeable (asked c .args .t .now) (asked c .args .a) (asked c .args .b)
 mergeable c = merge-accepted _ _ _ (accepted c)
@@ -36,7 +36,7 @@ join-requires-2 c κs =
     (omega (arith, c .before .if1 .left, m .pair .different), m .pair .first .inside, m .pair .valid)
 
 returns-2 : tie.Need-returns-2
-returns-2 c = ends-refused _ _ _ _ (sym (c .before .before .before .verdict-of .ensures) ∙ c .before .found .given .1)
+returns-2 c = ends-refused _ _ _ _ (sym (c .before .before .before .judge .ensures) ∙ c .before .found .given .1)
 
 returns-3 : tie.Need-returns-3
 returns-3 c =

@@ -1,4 +1,4 @@
--- `judged` meets its contract: the lengths, then the audit, then the marks. Assumes nothing.
+-- `judge` meets its contract: the lengths, then the audit, then the marks. Assumes nothing.
 use mathlib.Core.Path.{_≡_, sym, _∙_}
 use native.Mathlib.Omega.{arith}
 use borrow.Author.Needs.{needs}
@@ -6,8 +6,8 @@ use lib.ListN.{length}
 use Rattle.bitset.specs.Bits.{wordsFor}
 use Rattle.table.specs.Table.{cellsOf}
 use Rattle.cone.proofs.Refusals.{other-length, audit-refused, audit-passed, few-words}
-use Rattle.cone.proofs.judged.Statement.{statement}
-use Rattle.cone.proofs.judged.Tie as tie
+use Rattle.cone.proofs.judge.Statement.{statement}
+use Rattle.cone.proofs.judge.Tie as tie
 
 returns : tie.Need-returns
 returns c =
@@ -39,8 +39,8 @@ returns-3 c =
     let a = asked (d .before) .args in
     audit-passed (a .t .now) (a .marks .now) (right (d .before)) (sym (d .audit .ensures) ∙ c .before .enum-told .given .1) _ (c .asked .ensures)
 
-pub judged-spec : {M : Type 1} → statement M
-judged-spec =
+pub judge-spec : {M : Type 1} → statement M
+judge-spec =
     tie.close
     (tie.spec (λ c κs. search needs) (λ c κs. search needs) returns (λ c κs. search needs) (λ c. search needs) (λ c. search needs)
     asked-requires returns-2 returns-3)

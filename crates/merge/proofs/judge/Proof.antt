@@ -1,4 +1,4 @@
--- `merge::verdict_of` meets its contract: what may not be joined is refused so, else the faces decide. Assumes nothing.
+-- `merge::judge` meets its contract: what may not be joined is refused so, else the faces decide. Assumes nothing.
 use mathlib.Core.Path.{_≡_, sym, _∙_}
 use borrow.Author.Tests.{not-true, not-false}
 use Rattle.audit.specs.Audit.{grounds}
@@ -7,8 +7,8 @@ use Rattle.calls.specs.declared.Verdict.the-variants.{Accepted}
 use Rattle.merge.specs.Merge.{pairGrounds}
 use Rattle.merge.proofs.Pairs.{joined-inside, faces-differ, faces-agree, unjoinable-refuses}
 use borrow.Author.Needs.{needs}
-use Rattle.merge.proofs.verdict_of.Statement.{statement}
-use Rattle.merge.proofs.verdict_of.Tie as tie
+use Rattle.merge.proofs.judge.Statement.{statement}
+use Rattle.merge.proofs.judge.Tie as tie
 
 abbrev asked : tie.After-enum-told → tie.Start
 asked c = c .before .before .before .before
@@ -31,7 +31,7 @@ returns-2 c = faces-agree _ _ _ (accepted (c .before .before)) (sym (c .before .
 returns-3 : tie.Need-returns-3
 returns-3 c = unjoinable-refuses _ _ _ _ (sym (c .before .before .before .joinable .ensures) ∙ c .before .found .given .1)
 
-pub verdict-of-spec : {M : Type 1} → statement M
-verdict-of-spec =
+pub judge-spec : {M : Type 1} → statement M
+judge-spec =
     tie.close
     (tie.spec (λ c κs. search needs) (λ c. search needs) same-faces-requires returns (λ c. search needs) returns-2 returns-3)
