@@ -9,14 +9,14 @@ use Rattle.homology.specs.Cells.{odd}
 use Rattle.homology.specs.Holes.{boundary}
 use Rattle.homology.specs.Evidence.{cellsIn, boundingIn, holesIn}
 use Rattle.bitset.specs.Bits.{digit, mark, member, toggled, sumOf}
-use Rattle.counting.specs.Counting.{howMany, nth, someHas, listed, all}
+use Rattle.counting.specs.Counting.{howMany, nth, someHas, listed, all, largestBelow}
 use Rattle.table.specs.Table.{live, sized}
 use Rattle.table.specs.Records.{wordOf, tableOf}
 use Rattle.audit.specs.Audit.{scan, recordSound, faceSound, lawSound, recordBreach, faceBreach, lawBreach, cellBreach, firstBreach, sound}
 use Rattle.complex.specs.View.{oddFace}
 use Rattle.rows.specs.Rows.{rowOf, rows}
 use Rattle.reducer.specs.Rule.{alone, additionsIn}
-use Rattle.reducer.proofs.Computed.{largestBelow, boundaryHeight, owner, afterSearch, addRows, nextRow, withRow, rowsBelow, reducedEvidence, reducedAdditions}
+use Rattle.reducer.proofs.Computed.{boundaryHeight, owner, afterSearch, addRows, nextRow, withRow, rowsBelow, reducedEvidence, reducedAdditions}
 use Rattle.merge.specs.Rename.{renamed, identify}
 use Rattle.merge.specs.Merge.{sameFaces, mergeVerdict, merged}
 use Rattle.cone.specs.Cone.{free, apexOf, coneOf, baseOf, newCells, coneFace, coned, markedNotLive, notClosed, topMarked, noRoom, coneVerdict}

@@ -3,7 +3,7 @@
 use mathlib.Core.Path.{_≡_, refl, ap, _∙_}
 use mathlib.Core.List.{List}
 use Prim.Native.Nat.{ℕ}
-use Rattle.counting.specs.Counting.{howMany, someHas, all}
+use Rattle.counting.specs.Counting.{howMany, someHas, all, largestBelow}
 use Rattle.homology.specs.Cells.{Cells, Lawful, odd}
 use Rattle.homology.specs.Holes.{boundary}
 use Rattle.homology.specs.Evidence.{cellsIn, boundingIn}
@@ -16,7 +16,7 @@ use Rattle.complex.specs.Cells.{cells}
 use Rattle.complex.proofs.Boundary.{valid-is-lawful}
 use Rattle.rows.specs.Rows.{rowOf, rows}
 use Rattle.reducer.specs.Rule.{alone, additionsIn, ByRule}
-use Rattle.reducer.proofs.Computed.{largestBelow, boundaryHeight, owner, afterSearch, addRows, nextRow, withRow, rowsBelow, reducedEvidence, reducedAdditions}
+use Rattle.reducer.proofs.Computed.{boundaryHeight, owner, afterSearch, addRows, nextRow, withRow, rowsBelow, reducedEvidence, reducedAdditions}
 use Rattle.reducer.proofs.Existence.{by-rule-is-computed}
 use Rattle.reducer.proofs.OneOutcome.{counted-alike}
 use Rattle.cases.specs.Cases.{torus}

@@ -24,7 +24,7 @@ use Rattle.rows.proofs.Sets.{set-largest, set-largest-empty}
 use Rattle.rows.proofs.Members.{member-toggled, member-zeros}
 use Rattle.checker.specs.Check.{keepsB, rowBoundary, rowLargest}
 use Rattle.checker.specs.Row.{largestNumber}
-use Rattle.checker.proofs.LargestBelow.{largest-bounded, empty-largest}
+use Rattle.homology.proofs.LargestBelow.{largest-bounded, empty-largest}
 use Rattle.checker.proofs.Rules.{row-largest-said}
 
 -- whether a row below c has m as the largest cell of its boundary

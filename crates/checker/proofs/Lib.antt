@@ -1,4 +1,3 @@
-pub mod LargestBelow
 pub mod Dimensions
 pub mod RowTests
 pub mod LiveSets

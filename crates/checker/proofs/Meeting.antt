@@ -13,7 +13,6 @@ use Rattle.homology.specs.Cells.{Cells, Lawful}
 use Rattle.homology.specs.Evidence.{RuleA, RuleB, Meets}
 use Rattle.homology.proofs.Marks.{clash}
 use Rattle.calls.specs.Calls.{verdict}
-use Rattle.calls.specs.declared.Refusal.{Refusal}
 use Rattle.calls.specs.declared.Refusal.the-variants as refusals
 use Rattle.calls.specs.declared.Verdict.the-variants.{Accepted}
 use Rattle.rows.specs.Rows.{evidenceWords, rows}

@@ -5,7 +5,7 @@ use mathlib.Core.Path.{_≡_, refl, sym, ap, _∙_}
 use mathlib.Core.Bool.{true, false, not, _&&_, _||_}
 use mathlib.Core.List.{List}
 use mathlib.Core.Logic.{_↔_}
-use Prim.Native.Nat.{ℕ, zero, suc, _+_, _-_, _*_, _<_}
+use Prim.Native.Nat.{ℕ, zero, suc, _-_, _*_, _<_}
 use native.Mathlib.Omega.{arith}
 use borrow.Author.Tests.{eq-eqb, ne-eqb}
 use lib.Dec.{eqb}
@@ -20,11 +20,11 @@ use Rattle.homology.proofs.Tops.{member-below}
 use Rattle.counting.specs.Counting.{someHas, all}
 use Rattle.counting.proofs.Counting.{someHas-none, someHas-at}
 use Rattle.bitset.specs.Bits.{bits, member}
-use Rattle.rows.specs.Rows.{rowWidth, evidenceWords, rowOf, rows, RowLive}
+use Rattle.rows.specs.Rows.{evidenceWords, rowOf, rows, RowLive}
 use Rattle.rows.proofs.RowWords.{length-rowOf, rule-a-live}
 use Rattle.checker.specs.Check.{keepsA, keepsB, rowBoundary, rowLargest}
 use Rattle.checker.specs.Row.{rowKeeps}
-use Rattle.checker.proofs.LargestBelow.{empty-largest, largest-below-said, largest-below-says}
+use Rattle.homology.proofs.LargestBelow.{empty-largest, largest-below-said, largest-below-says}
 use Rattle.checker.proofs.RowTests.{fits, Fitting, kept-members, kept-own, members-kept}
 
 -- the test of row c is that of its words

@@ -13,7 +13,7 @@ use Rattle.counting.proofs.Cases.{and-both}
 use Rattle.counting.specs.Counting.{howMany, listed}
 use Rattle.counting.proofs.Tallies.{Tally, tally-counted, tally-skipped}
 use Rattle.homology.specs.Cells.{Cells, Lawful}
-use Rattle.homology.specs.Evidence.{cellsIn, boundingIn}
+use Rattle.homology.specs.Evidence.{boundingIn}
 use Rattle.homology.proofs.Marks.{&&-off}
 use Rattle.homology.proofs.Chains.{boundary-member}
 use Rattle.homology.proofs.ChainKinds.{isCell}
@@ -23,7 +23,7 @@ use Rattle.counting.proofs.Listed.{length-listed, getD-listed}
 use Rattle.rows.specs.Rows.{evidenceWords, rows}
 use Rattle.checker.specs.Check.{keepsA, rowBoundary, rowLargest}
 use Rattle.checker.specs.Row.{differences}
-use Rattle.checker.proofs.LargestBelow.{any-on-largest, any-off-largest}
+use Rattle.homology.proofs.LargestBelow.{any-on-largest, any-off-largest}
 use Rattle.checker.proofs.Dimensions.{cell-says, other-dimension}
 use Rattle.checker.proofs.Rules.{kept-fits, row-largest-says}
 

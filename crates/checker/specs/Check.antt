@@ -4,14 +4,14 @@
 use mathlib.Core.Path.{_≡_}
 use mathlib.Core.Bool.{Bool, _&&_, _||_, not}
 use mathlib.Core.List.{List, [], _∷_}
-use Prim.Native.Nat.{ℕ, zero, suc, _+_, _*_}
+use Prim.Native.Nat.{ℕ, zero, suc, _*_}
 use lib.ListN.{replicate}
 use lib.Dec.{eqb, leb}
 use Rattle.homology.specs.Cells.{Cells}
 use Rattle.homology.specs.Holes.{Chain, boundary}
 use Rattle.homology.specs.Evidence.{cellsIn, holesIn}
 use Rattle.bitset.specs.Bits.{bits}
-use Rattle.counting.specs.Counting.{someHas, pick, listed, all}
+use Rattle.counting.specs.Counting.{someHas, listed, all, largestBelow}
 use Rattle.table.specs.Kind.{dimensions}
 use Rattle.audit.specs.Audit.{groundsWith}
 use Rattle.calls.specs.Calls.{Ground, verdict, onVerdict}
@@ -33,11 +33,7 @@ keepsA K ev c =
 abbrev pub rowBoundary : Cells → List ℕ → ℕ → Chain
 rowBoundary K ev c = boundary K (rows K ev c)
 
--- one more than the largest number below n in x, and 0 where there is none
-unfoldable pub largestBelow : Chain → ℕ → ℕ
-largestBelow x zero = 0
-largestBelow x (suc n) = pick (x n) (suc n) (largestBelow x n)
-
+-- one more than the largest cell of the boundary of row c, and 0 where it is empty
 abbrev pub rowLargest : Cells → List ℕ → ℕ → ℕ
 rowLargest K ev c = largestBelow (rowBoundary K ev c) (K .size)
 

@@ -30,6 +30,11 @@ unfoldable pub someHas : (ℕ → Bool) → ℕ → Bool
 someHas f zero = false
 someHas f (suc n) = someHas f n || f n
 
+-- one more than the largest number below n that has f, and 0 where none has
+unfoldable pub largestBelow : (ℕ → Bool) → ℕ → ℕ
+largestBelow f zero = 0
+largestBelow f (suc n) = pick (f n) (suc n) (largestBelow f n)
+
 -- whether all numbers below n have f
 unfoldable pub all : ℕ → (ℕ → Bool) → Bool
 all zero f = true

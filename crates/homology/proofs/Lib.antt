@@ -3,6 +3,7 @@ pub mod Parity
 pub mod Counting
 pub mod Chains
 pub mod Tops
+pub mod LargestBelow
 pub mod ChainKinds
 pub mod HoleCells
 pub mod Selections

@@ -3,23 +3,23 @@
 -- The measure: the height of the boundary of the row at work, which falls with each addition; so as much fuel as there are cells is enough.
 -- Assumes nothing.
 use mathlib.Core.Path.{_≡_, refl, sym, ap, ap₂, subst, _∙_}
-use mathlib.Core.Bool.{Bool, true, false}
+use mathlib.Core.Bool.{false}
 use mathlib.Core.List.{List, [], _∷_, _++_}
 use Prim.Native.Nat.{ℕ, zero, suc, _*_, _≤_, _<_}
-use native.Mathlib.Nat.{suc-inj}
 use native.Mathlib.Omega.{arith}
 use borrow.Author.Tests.{eq-eqb, eqb-true}
 use lib.Dec.{eqb}
 use lib.ListN.{length, getD}
 use Rattle.homology.specs.Cells.{Cells, Lawful, _⊻_}
 use Rattle.homology.specs.Holes.{boundary}
-use Rattle.homology.proofs.Marks.{by-mark, by-order, clash}
+use Rattle.homology.proofs.Marks.{by-order, clash}
 use Rattle.homology.proofs.Chains.{boundary-below}
 use Rattle.homology.proofs.Tops.{Below, member-below, largest-unique}
+use Rattle.homology.proofs.LargestBelow.{largest-found, largest-none, largest-at-most}
 use Rattle.bitset.specs.Bits.{member, sumOf}
 use Rattle.bitset.proofs.Marks.{length-sum}
 use Rattle.bitset.proofs.RowLaws.{row-fits, length-row}
-use Rattle.counting.specs.Counting.{pick}
+use Rattle.counting.specs.Counting.{pick, largestBelow}
 use Rattle.rows.specs.Rows.{rowWidth, rowOf}
 use Rattle.rows.proofs.Boundaries.{boundary-of-sum}
 use Rattle.reducer.specs.Rule.{LargestOf, Additions, stop, add, alone, emptyRow}
@@ -27,19 +27,14 @@ use Rattle.reducer.proofs.Meeting.{alone-width}
 
 -- ---- the functions
 
--- the largest number below n that has x, and one more; 0 where none has
-unfoldable pub largestBelow : ℕ → (ℕ → Bool) → ℕ
-largestBelow zero x = 0
-largestBelow (suc n) x = pick (x n) (suc n) (largestBelow n x)
-
 -- the largest cell of the boundary of row x, and one more; 0 where the boundary is empty
 unfoldable pub boundaryHeight : Cells → List ℕ → ℕ
-boundaryHeight K x = largestBelow (K .size) (boundary K (member x))
+boundaryHeight K x = largestBelow (boundary K (member x)) (K .size)
 
 -- the row below c whose boundary has height h, and one more; 0 where there is none, and for the empty boundary
 unfoldable pub owner : List ℕ → ℕ → ℕ → ℕ
 owner heights c zero = 0
-owner heights c (suc m) = largestBelow c (λ b. eqb (getD heights b 0) (suc m))
+owner heights c (suc m) = largestBelow (λ b. eqb (getD heights b 0) (suc m)) c
 
 -- additions made, and the row that they lead to
 pub record Outcome : Type 0 where
@@ -84,38 +79,13 @@ reducedEvidence K = rowsBelow K (K .size) .evidence
 unfoldable pub reducedAdditions : Cells → ℕ → ℕ
 reducedAdditions K c = getD (rowsBelow K (K .size) .additions) c 0
 
--- ---- the search
-
-pub largest-found : (n : ℕ) (x : ℕ → Bool) (m : ℕ) → largestBelow n x ≡ suc m → (m < n) × (x m ≡ true) × ((s : ℕ) → m < s → s < n → x s ≡ false)
-unfolding largestBelow
-largest-found zero x m e = absurd (omega arith)
-largest-found (suc n) x m e = by-mark (x n)
-    (λ h. let q : n ≡ m = suc-inj (rw h at e) in (omega arith, subst (λ (k : ℕ). x k ≡ true) q h, λ s l k. absurd (omega arith)))
-    (λ h. let r = largest-found n x m (rw h at e) in
-    (omega arith, r .1, λ s l k. by-order s n (r .2 s l) (λ q. subst (λ (i : ℕ). x i ≡ false) (sym q) h) (λ q. absurd (omega arith))))
-
-pub largest-none : (n : ℕ) (x : ℕ → Bool) → largestBelow n x ≡ 0 → (s : ℕ) → s < n → x s ≡ false
-unfolding largestBelow
-largest-none zero x e s l = absurd (omega arith)
-largest-none (suc n) x e s l = by-mark (x n)
-    (λ h. absurd (omega (arith, rw h at e)))
-    (λ h. by-order s n (largest-none n x (rw h at e) s) (λ q. subst (λ (i : ℕ). x i ≡ false) (sym q) h) (λ q. absurd (omega arith)))
-
--- nothing from m on
-pub largest-at-most : (n m : ℕ) (x : ℕ → Bool) → Below m x → largestBelow n x ≤ m
-largest-at-most n m x below = go (largestBelow n x) refl
-  where
-    go : (h : ℕ) → largestBelow n x ≡ h → h ≤ m
-    go zero e = omega arith
-    go (suc k) e = member-below m x below k (largest-found n x k e .1)
-
 -- ---- the height of a boundary is its largest cell
 
 module _ (K : Cells) (lawful : Lawful K) where
   height-is-largest : (x : List ℕ) (m : ℕ) → boundaryHeight K x ≡ suc m → LargestOf K x m
   unfolding boundaryHeight
   height-is-largest x m e =
-      let r = largest-found (K .size) (boundary K (member x)) m e in
+      let r = largest-found (boundary K (member x)) (K .size) m e in
       record {
         member = r .1;
         above = λ s l. by-order s (K .size) (r .2 s l) (λ q. past s (omega arith)) (λ q. past s (omega arith));
@@ -132,17 +102,17 @@ module _ (K : Cells) (lawful : Lawful K) where
       inside = member-below (K .size) (boundary K (member x)) (boundary-below K lawful (member x)) m (g .member)
 
       go : (h : ℕ) → boundaryHeight K x ≡ h → h ≡ suc m
-      go zero e = clash (g .member) (largest-none (K .size) (boundary K (member x)) e m inside)
+      go zero e = clash (g .member) (largest-none (boundary K (member x)) (K .size) e m inside)
       go (suc k) e = ap suc (largest-unique (height-is-largest x k e) g)
 
   height-inside : (x : List ℕ) → boundaryHeight K x ≤ K .size
   unfolding boundaryHeight
-  height-inside x = largest-at-most (K .size) (K .size) (boundary K (member x)) (boundary-below K lawful (member x))
+  height-inside x = largest-at-most (boundary K (member x)) (K .size) (K .size) (boundary-below K lawful (member x))
 
   -- rows whose boundaries have the same largest cell
   pub height-of-sum : (x y : List ℕ) (m : ℕ) → length x ≡ length y → LargestOf K x m → LargestOf K y m → boundaryHeight K (sumOf x y) ≤ m
   unfolding boundaryHeight
-  height-of-sum x y m e g h = largest-at-most (K .size) m (boundary K (member (sumOf x y))) (λ s l.
+  height-of-sum x y m e g h = largest-at-most (boundary K (member (sumOf x y))) (K .size) m (λ s l.
       boundary-of-sum K x y e s
       ∙ by-order s m (λ k. absurd (omega arith))
       (λ q. subst (λ (u : ℕ). boundary K (member x) u ⊻ boundary K (member y) u ≡ false) (sym q) (ap₂ _⊻_ (g .member) (h .member)))
@@ -166,14 +136,14 @@ module _ (K : Cells) (lawful : Lawful K) (ev heights : List ℕ) (c : ℕ) (so :
   no-owner x zero e none = stop (λ b m l g k. let high : boundaryHeight K x ≡ suc m = largest-is-height K lawful x m g in omega arith)
   no-owner x (suc i) e none = stop (λ b m l g k. clash
       (eq-eqb (getD heights b 0) (suc i) (so .each b l ∙ largest-is-height K lawful (rowOf K ev b) m k ∙ sym (largest-is-height K lawful x m g) ∙ e))
-      (largest-none c (λ a. eqb (getD heights a 0) (suc i)) none b l))
+      (largest-none (λ a. eqb (getD heights a 0) (suc i)) c none b l))
 
   -- an owner: an earlier row with the same largest cell
   has-owner : (h b : ℕ) → owner heights c h ≡ suc b → (m : ℕ) × (h ≡ suc m) × (b < c) × LargestOf K (rowOf K ev b) m
   unfolding owner
   has-owner zero b e = absurd (omega arith)
   has-owner (suc m) b e =
-      let r = largest-found c (λ a. eqb (getD heights a 0) (suc m)) b e in
+      let r = largest-found (λ a. eqb (getD heights a 0) (suc m)) c b e in
       (m, refl, r .0, height-is-largest K lawful (rowOf K ev b) m (sym (so .each b (r .0)) ∙ eqb-true (getD heights b 0) (suc m) (r .1)))
 
   -- after the search, where the turns that follow are known to be the rule's

@@ -16,7 +16,7 @@ use Rattle.table.specs.Kind.{top}
 use Rattle.table.specs.Table.{cellsOf, dim, live}
 use Rattle.table.proofs.Records.{live-says, live-true}
 use Rattle.counting.proofs.Tests.{at-or-below}
-use Rattle.sheet.specs.Sheet.{largestBelow}
+use Rattle.sheet.specs.Sheet.{largestDimBelow}
 use Rattle.sheet.specs.Sides.{levelOf, levelsBelow}
 
 -- the level of a record that is free, and of one that is live
@@ -28,31 +28,31 @@ level-live p h = rw (le-ltb top p h)
 
 module _ (t : List ℕ) where
   -- at the start, at a live cell, and at a number that is none
-  largest-zero : largestBelow t 0 ≡ 0
-  unfolding largestBelow
+  largest-zero : largestDimBelow t 0 ≡ 0
+  unfolding largestDimBelow
   largest-zero = refl
 
-  largest-live : (m : ℕ) → live t m ≡ true → largestBelow t (suc m) ≡ max (largestBelow t m) (dim t m)
-  unfolding largestBelow
+  largest-live : (m : ℕ) → live t m ≡ true → largestDimBelow t (suc m) ≡ max (largestDimBelow t m) (dim t m)
+  unfolding largestDimBelow
   largest-live m e = rw e
 
-  largest-free : (m : ℕ) → live t m ≡ false → largestBelow t (suc m) ≡ largestBelow t m
-  unfolding largestBelow
+  largest-free : (m : ℕ) → live t m ≡ false → largestDimBelow t (suc m) ≡ largestDimBelow t m
+  unfolding largestDimBelow
   largest-free m e = rw e
 
-  largest-grows : (m : ℕ) → largestBelow t m ≤ largestBelow t (suc m)
+  largest-grows : (m : ℕ) → largestDimBelow t m ≤ largestDimBelow t (suc m)
   largest-grows m =
       ⊎-elim
-      (λ e. omega (arith, largest-live m e, le-max-left (largestBelow t m) (dim t m)))
+      (λ e. omega (arith, largest-live m e, le-max-left (largestDimBelow t m) (dim t m)))
       (λ e. omega (arith, largest-free m e))
       (true-or-false (live t m))
 
   -- no live cell exceeds it
-  pub largest-bounds : (m c : ℕ) → c < m → live t c ≡ true → dim t c ≤ largestBelow t m
+  pub largest-bounds : (m c : ℕ) → c < m → live t c ≡ true → dim t c ≤ largestDimBelow t m
   largest-bounds zero c h e = absurd (not-suc-le-zero h)
   largest-bounds (suc m) c h e =
-      at-or-below (λ s. live t s ≡ true → dim t s ≤ largestBelow t (suc m)) c m h
-      (λ l. omega (arith, largest-live m l, le-max-right (largestBelow t m) (dim t m)))
+      at-or-below (λ s. live t s ≡ true → dim t s ≤ largestDimBelow t (suc m)) c m h
+      (λ l. omega (arith, largest-live m l, le-max-right (largestDimBelow t m) (dim t m)))
       (λ l i. omega (arith, largest-bounds m c l i, largest-grows m))
       e
 
@@ -61,16 +61,16 @@ module _ (t : List ℕ) where
     pub cell : ℕ
     pub inside : cell < m
     pub living : live t cell ≡ true
-    pub level : dim t cell ≡ largestBelow t m
+    pub level : dim t cell ≡ largestDimBelow t m
 
   abbrev Bare : ℕ → Type 0
-  Bare m = (someHas (live t) m ≡ false) × (largestBelow t m ≡ 0)
+  Bare m = (someHas (live t) m ≡ false) × (largestDimBelow t m ≡ 0)
 
-  at-bound : (m : ℕ) → live t m ≡ true → largestBelow t m ≤ dim t m → Attained (suc m)
+  at-bound : (m : ℕ) → live t m ≡ true → largestDimBelow t m ≤ dim t m → Attained (suc m)
   at-bound m e h =
       record { cell = m; inside = omega arith; living = e; level = sym (max-eq-right h) ∙ sym (largest-live m e) }
 
-  stays : (m : ℕ) → Attained m → largestBelow t (suc m) ≡ largestBelow t m → Attained (suc m)
+  stays : (m : ℕ) → Attained m → largestDimBelow t (suc m) ≡ largestDimBelow t m → Attained (suc m)
   stays m a e =
       record { cell = a .cell; inside = omega (arith, a .inside); living = a .living; level = a .level ∙ sym e }
 
@@ -84,9 +84,9 @@ module _ (t : List ℕ) where
 
   attained-or-bare : (m : ℕ) → Attained m ⊎ Bare m
   attained-or-bare zero = inr (none-yet, largest-zero)
-  attained-or-bare (suc m) = go (true-or-false (live t m)) (attained-or-bare m) (below-or-not (dim t m) (largestBelow t m))
+  attained-or-bare (suc m) = go (true-or-false (live t m)) (attained-or-bare m) (below-or-not (dim t m) (largestDimBelow t m))
     where
-      go : (live t m ≡ true) ⊎ (live t m ≡ false) → Attained m ⊎ Bare m → (dim t m < largestBelow t m) ⊎ (largestBelow t m ≤ dim t m) → Attained (suc m) ⊎ Bare (suc m)
+      go : (live t m ≡ true) ⊎ (live t m ≡ false) → Attained m ⊎ Bare m → (dim t m < largestDimBelow t m) ⊎ (largestDimBelow t m ≤ dim t m) → Attained (suc m) ⊎ Bare (suc m)
       go (inl e) a (inr h) = inl (at-bound m e h)
       go (inl e) (inl a) (inl h) = inl (stays m a (largest-live m e ∙ max-eq-left (omega arith)))
       go (inl e) (inr b) (inl h) = absurd (omega (arith, b .1))
@@ -96,7 +96,7 @@ module _ (t : List ℕ) where
   pub largest-attained : (m : ℕ) → someHas (live t) m ≡ true → Attained m
   largest-attained m e = ⊎-elim (λ a. a) (λ b. absurd (false≢true (sym (b .0) ∙ e))) (attained-or-bare m)
 
-  largest-bare : (m : ℕ) → someHas (live t) m ≡ false → largestBelow t m ≡ 0
+  largest-bare : (m : ℕ) → someHas (live t) m ≡ false → largestDimBelow t m ≡ 0
   largest-bare m e =
       ⊎-elim
       (λ a. absurd (false≢true (sym (someHas-each (live t) m e (a .cell) (a .inside)) ∙ a .living)))
@@ -153,18 +153,18 @@ module _ (t : List ℕ) where
       i ∙ ap (levelsBelow t) z
 
   -- they are one more than the largest dimension, and 0 where no cell is live
-  level-cases : (m : ℕ) (b : Bool) → someHas (live t) m ≡ b → levelsBelow t m ≡ pick b (suc (largestBelow t m)) 0 → max (levelsBelow t m) (suc (dim t m)) ≡ suc (max (largestBelow t m) (dim t m))
-  level-cases m true s e = ap (λ l. max l (suc (dim t m))) e ∙ suc-max-suc (largestBelow t m) (dim t m)
+  level-cases : (m : ℕ) (b : Bool) → someHas (live t) m ≡ b → levelsBelow t m ≡ pick b (suc (largestDimBelow t m)) 0 → max (levelsBelow t m) (suc (dim t m)) ≡ suc (max (largestDimBelow t m) (dim t m))
+  level-cases m true s e = ap (λ l. max l (suc (dim t m))) e ∙ suc-max-suc (largestDimBelow t m) (dim t m)
   level-cases m false s e =
       ap (λ l. max l (suc (dim t m))) e
       ∙ zero-max (suc (dim t m))
       ∙ ap suc (sym (zero-max (dim t m)) ∙ ap (λ l. max l (dim t m)) (sym (largest-bare m s)))
 
-  pub levels-are : (m : ℕ) → levelsBelow t m ≡ pick (someHas (live t) m) (suc (largestBelow t m)) 0
+  pub levels-are : (m : ℕ) → levelsBelow t m ≡ pick (someHas (live t) m) (suc (largestDimBelow t m)) 0
   levels-are zero = rw none-yet levels-zero
   levels-are (suc m) = go (true-or-false (live t m)) (levels-are m)
     where
-      go : (live t m ≡ true) ⊎ (live t m ≡ false) → levelsBelow t m ≡ pick (someHas (live t) m) (suc (largestBelow t m)) 0 → levelsBelow t (suc m) ≡ pick (someHas (live t) (suc m)) (suc (largestBelow t (suc m))) 0
+      go : (live t m ≡ true) ⊎ (live t m ≡ false) → levelsBelow t m ≡ pick (someHas (live t) m) (suc (largestDimBelow t m)) 0 → levelsBelow t (suc m) ≡ pick (someHas (live t) (suc m)) (suc (largestDimBelow t (suc m))) 0
       go (inl e) h =
           rw (someHas-at (live t) (suc m) m (omega arith) e, largest-live m e)
           (levels-live m e ∙ level-cases m (someHas (live t) m) refl h)

@@ -7,7 +7,7 @@ use Rattle.counting.specs.Counting.{all, howMany, someHas, total}
 use Rattle.table.specs.Kind.{freeMark}
 use Rattle.table.specs.Table.{sized, live, isCell}
 use Rattle.audit.specs.Audit.{scan, recordSound, faceSound, lawSound, recordBreach, faceBreach, lawBreach, cellBreach, firstBreach, sound}
-use Rattle.sheet.specs.Sheet.{hasFace, places, wings, largestBelow, largestDim, covered, isSheet, sheetAnswer}
+use Rattle.sheet.specs.Sheet.{hasFace, places, wings, largestDimBelow, largestDim, covered, isSheet, sheetAnswer}
 use Rattle.sheet.specs.OldSheet.{oldWings}
 use Rattle.sheet.specs.declared.Judged.the-variants.{Yes, No}
 
@@ -51,7 +51,7 @@ pub record Examples : Type 0 where
   two-triangles : sheetAnswer torus ≡ Yes
 
 examples : Examples
-unfolding sized live isCell all howMany someHas scan recordSound faceSound lawSound recordBreach faceBreach lawBreach cellBreach firstBreach sound hasFace places total wings largestBelow largestDim covered isSheet oldWings
+unfolding sized live isCell all howMany someHas scan recordSound faceSound lawSound recordBreach faceBreach lawBreach cellBreach firstBreach sound hasFace places total wings largestDimBelow largestDim covered isSheet oldWings
 examples =
     record {
       one-loop = refl;

@@ -44,12 +44,12 @@ abbrev pub IsSheet : List ℕ → ℕ → Type 0
 IsSheet t n = SheetBy (wings t n) t n
 
 -- the largest live dimension below cell number m; 0 where there is none
-unfoldable pub largestBelow : List ℕ → ℕ → ℕ
-largestBelow t zero = 0
-largestBelow t (suc m) = pick (live t m) (max (largestBelow t m) (dim t m)) (largestBelow t m)
+unfoldable pub largestDimBelow : List ℕ → ℕ → ℕ
+largestDimBelow t zero = 0
+largestDimBelow t (suc m) = pick (live t m) (max (largestDimBelow t m) (dim t m)) (largestDimBelow t m)
 
 unfoldable pub largestDim : List ℕ → ℕ
-largestDim t = largestBelow t (cellsOf t)
+largestDim t = largestDimBelow t (cellsOf t)
 
 -- whether u is a face of a live cell
 unfoldable pub covered : List ℕ → ℕ → Bool

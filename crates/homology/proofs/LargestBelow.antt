@@ -5,12 +5,11 @@ use mathlib.Core.Bool.{Bool, true, false, _||_}
 use Prim.Native.Nat.{ℕ, zero, suc, _≤_, _<_}
 use native.Mathlib.Nat.{suc-inj}
 use native.Mathlib.Omega.{arith}
-use Rattle.counting.specs.Counting.{someHas}
+use Rattle.counting.specs.Counting.{someHas, largestBelow}
 use Rattle.homology.specs.Holes.{Chain}
 use Rattle.homology.specs.Evidence.{IsLargest}
 use Rattle.homology.proofs.Marks.{by-mark, by-order}
-use Rattle.homology.proofs.Tops.{Below, Empty, below-less}
-use Rattle.checker.specs.Check.{largestBelow}
+use Rattle.homology.proofs.Tops.{Below, Empty, below-less, member-below}
 
 pub largest-bounded : (x : Chain) (n : ℕ) → largestBelow x n ≤ n
 unfolding largestBelow
@@ -59,3 +58,27 @@ any-off-largest x zero e = refl
 any-off-largest x (suc n) e = by-mark (x n)
     (λ g. let z : suc n ≡ 0 = rw g at e in absurd (omega arith))
     (λ g. rw g (off-right (someHas x n) ∙ any-off-largest x n (rw g at e)))
+
+-- what the number says of a chain that may go on past n
+pub largest-found : (x : Chain) (n m : ℕ) → largestBelow x n ≡ suc m → (m < n) × (x m ≡ true) × ((s : ℕ) → m < s → s < n → x s ≡ false)
+unfolding largestBelow
+largest-found x zero m e = absurd (omega arith)
+largest-found x (suc n) m e = by-mark (x n)
+    (λ h. let q : n ≡ m = suc-inj (rw h at e) in (omega arith, subst (λ (k : ℕ). x k ≡ true) q h, λ s l k. absurd (omega arith)))
+    (λ h. let r = largest-found x n m (rw h at e) in
+    (omega arith, r .1, λ s l k. by-order s n (r .2 s l) (λ q. subst (λ (i : ℕ). x i ≡ false) (sym q) h) (λ q. absurd (omega arith))))
+
+pub largest-none : (x : Chain) (n : ℕ) → largestBelow x n ≡ 0 → (s : ℕ) → s < n → x s ≡ false
+unfolding largestBelow
+largest-none x zero e s l = absurd (omega arith)
+largest-none x (suc n) e s l = by-mark (x n)
+    (λ h. absurd (omega (arith, rw h at e)))
+    (λ h. by-order s n (largest-none x n (rw h at e) s) (λ q. subst (λ (i : ℕ). x i ≡ false) (sym q) h) (λ q. absurd (omega arith)))
+
+-- nothing from m on
+pub largest-at-most : (x : Chain) (n m : ℕ) → Below m x → largestBelow x n ≤ m
+largest-at-most x n m below = go (largestBelow x n) refl
+  where
+    go : (h : ℕ) → largestBelow x n ≡ h → h ≤ m
+    go zero e = omega arith
+    go (suc k) e = member-below m x below k (largest-found x n k e .1)
