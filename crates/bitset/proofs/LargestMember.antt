@@ -1,18 +1,16 @@
 -- The largest member of a set: there is one at most, and the top bit of the last word that is not 0 is it.
 -- What carries it: a number from 2 ^ j up to below 2 ^ (j + 1) has digit j and none above. Assumes nothing.
-use mathlib.Core.Path.{_≡_, refl, sym, ap, subst, _∙_}
+use mathlib.Core.Path.{_≡_, sym, ap, subst, _∙_}
 use mathlib.Core.Logic.{by-cases}
 use mathlib.Core.List.{List}
 use Prim.Native.Nat.{ℕ, suc, _+_, _-_, _*_, _/_, _%_, _^_, _≤_, _<_}
 use native.Mathlib.Nat.{div-eq-of-lt-le, one-mul, two-pow-succ, lt-of-lt-of-le, two-mul}
-use native.Mathlib.Decide.{ℕ-discrete, decLt}
+use native.Mathlib.Decide.{ℕ-discrete}
 use native.Mathlib.Omega.{arith}
 use lib.Count.{leadingZeros, leading-top}
 use lib.ListN.{length, getD, List·getD-eq-default}
 use lib.Pow.{pow-mono}
-use Rattle.bitset.specs.Bits.{bits, digit, mark, IsLargestIn, LargestIs, sumOf}
-use Rattle.bitset.specs.declared.LargestCell.{LargestCell}
-use Rattle.bitset.specs.declared.LargestCell.the-variants.{Nothing, Cell}
+use Rattle.bitset.specs.Bits.{bits, digit, mark, IsLargestIn, sumOf}
 use Rattle.bitset.proofs.Digits.{digit-past}
 use Rattle.bitset.proofs.Marks.{mark-at, mark-of-zero-word, mark-sum}
 

@@ -7,11 +7,11 @@ use Prim.Native.Nat.{ℕ, zero, suc, _+_, _-_, _*_, _/_, _%_, _^_, _<_, suc-le-s
 use native.Mathlib.Nat.{zero-lt-suc, not-suc-le-zero, le-of-suc-le-suc, two-pow-succ, one-mul}
 use native.Mathlib.Numerals.{one-add}
 use native.Mathlib.Omega.{arith}
-use lib.Bits.{bitXor, bitAnd, xor-add-and, xor-lt, and-high}
+use lib.Bits.{bitXor, bitAnd, xor-add-and, and-high}
 use lib.Count.{trailingZeros, under}
 use lib.Dec.{lit<}
 use lib.ListN.{getD, set}
-use lib.Pow.{pow-pos, pow-lt, shl-exact}
+use lib.Pow.{pow-pos, shl-exact}
 use Rattle.bitset.specs.Bits.{bits, digit, toggled, IsLowest}
 use Rattle.bitset.proofs.Digits.{half-lt, digit-lt-two, digit-first, digit-next, digit-xor, digit-of-power-same, digit-of-power-other}
 

@@ -4,13 +4,13 @@ use mathlib.Core.Path.{_≡_, sym, ap, ap₂, subst, _∙_}
 use mathlib.Core.Logic.{by-cases, _≢_}
 use mathlib.Core.List.{List, _++_}
 use Prim.Native.Nat.{ℕ, suc, _+_, _-_, _*_, _/_, _%_, _^_, _≤_, _<_}
-use native.Mathlib.Nat.{suc-mul, mul-le-mul-right, min-le-left}
+use native.Mathlib.Nat.{suc-mul, mul-le-mul-right}
 use native.Mathlib.Decide.{decLt, ℕ-discrete}
 use native.Mathlib.Omega.{arith}
 use lib.Bits.{bitXor}
-use lib.ListN.{length, getD, set, take, drop, replicate, length-take, length-drop, length-set, length-replicate, List·getD-eq-default}
+use lib.ListN.{length, getD, set, take, drop, replicate, length-take, length-drop, length-set, length-replicate}
 use lib.Seq.{ext-getD, getD-take, getD-drop, getD-set-same, getD-set-other, length-take-le, take-append-le, drop-append-le, drop-append-seam, take-all}
-use Rattle.bitset.specs.Bits.{bits, toggled, sumOf}
+use Rattle.bitset.specs.Bits.{bits, sumOf}
 use Rattle.bitset.specs.Rows.{rowAt, RowKept, RowAdded, RowStarted}
 use Rattle.bitset.specs.Runs.{Run, WordsAdded, WordsCopied}
 use Rattle.bitset.proofs.Marks.{zeros-at, length-sum, sum-at}

@@ -1,7 +1,7 @@
 -- Sets word by word: the empty set, words below 2 ^ 64, and that the marks decide the words.
 -- The bound on the words is stated as `(k : ℕ) → getD ws k 0 < 2 ^ 64`, which owning a slice of u64 tells. Assumes nothing.
 use mathlib.Core.Path.{_≡_, refl, sym, ap, subst, _∙_}
-use mathlib.Core.Logic.{_≢_, _↔_, by-cases}
+use mathlib.Core.Logic.{_≢_, by-cases}
 use mathlib.Core.Bool.{Bool, true, false, _&&_}
 use mathlib.Core.List.{List, [], _∷_}
 use Prim.Native.Nat.{ℕ, zero, suc, _+_, _*_, _/_, _%_, _^_, _≤_, _<_}
@@ -15,7 +15,7 @@ use lib.Pow.{pow-lt}
 use lib.Seq.{ext-getD, getD-set-same, getD-set-other, set-out}
 use Rattle.bitset.specs.Bits.{bits, digit, mark, toggled, sumOf, nothingIn}
 use Rattle.bitset.proofs.Digits.{digits-decide, no-digits-zero}
-use Rattle.bitset.proofs.Marks.{mark-at, mark-of-zero-word, mark-lt-two, sum-at}
+use Rattle.bitset.proofs.Marks.{mark-at, mark-of-zero-word, sum-at}
 
 -- ---- the empty set
 

@@ -8,14 +8,14 @@ use Rattle.table.specs.Table.{Valid}
 use Rattle.calls.specs.Calls.{leaves}
 use Rattle.calls.specs.declared.Verdict.{Verdict}
 use Rattle.calls.specs.declared.Verdict.the-variants.{Accepted, Refused}
-use Rattle.merge.specs.Merge.{IsIdentification, mergeVerdict, merged, mergeLeaves}
+use Rattle.merge.specs.Merge.{merged, mergeLeaves}
 use Rattle.merge.proofs.Identification.{identification-determines}
 use Rattle.merge.proofs.Answers.{mergeLeaves-valid, merge-accepted-leaves}
 use Rattle.merge.specs.Rename.{renamed}
 use Rattle.weld.specs.Weld.{IsWeld}
 use Rattle.weld.specs.Call.{weldVerdict, welded, weldLeaves}
 use Rattle.weld.proofs.Answers.{weld-exists, welded-is-renamed, weldLeaves-valid}
-use Rattle.cone.specs.Cone.{apexOf, coneOf, coned, coneVerdict, coneLeaves}
+use Rattle.cone.specs.Cone.{apexOf, coneOf, coned}
 use Rattle.compaction.specs.Made.{newNumber, compacted}
 use Rattle.compaction.specs.Call.{compactLeaves}
 use Rattle.compaction.proofs.Determines.{one-compaction}

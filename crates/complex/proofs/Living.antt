@@ -7,7 +7,7 @@ use native.Mathlib.Nat.{suc-inj}
 use native.Mathlib.Omega.{arith}
 use borrow.Author.Tests.{ne-eqb, le-leb}
 use Rattle.table.specs.Kind.{top, used}
-use Rattle.table.specs.Table.{Live, Valid, dim, face, live}
+use Rattle.table.specs.Table.{Live, Valid, dim, face}
 
 -- a dimension from 1 to the top has one place more than its number
 pub places : (p : ℕ) → suc p ≤ top → used (suc p) ≡ suc (suc p)

@@ -5,14 +5,14 @@ use mathlib.Core.Path.{_≡_, refl, sym, ap, _∙_}
 use mathlib.Core.Logic.{⊎-elim}
 use mathlib.Core.Bool.{Bool, true, false, _&&_}
 use mathlib.Core.List.{List}
-use Prim.Native.Nat.{ℕ, suc, _+_, _*_, _<_}
+use Prim.Native.Nat.{ℕ, _+_, _*_, _<_}
 use native.Mathlib.Omega.{arith}
 use borrow.Author.Tests.{lt-ltb, le-ltb, eq-eqb, ne-eqb}
 use lib.ListN.{length}
 use lib.Dec.{ltb, eqb}
 use Rattle.bitset.specs.Bits.{member}
-use Rattle.table.specs.Kind.{faces, width, freeMark}
-use Rattle.table.specs.Table.{cellsOf, dim, face, live}
+use Rattle.table.specs.Kind.{width}
+use Rattle.table.specs.Table.{cellsOf, live}
 use Rattle.table.specs.Records.{Record, recordAt, tableOf, Alike, Stored}
 use Rattle.counting.proofs.Cases.{below-or-not}
 use Rattle.table.proofs.Words.{length-tableOf, record-tableOf, table-by-records}

@@ -1,12 +1,12 @@
 -- Where the marks end, what the pass that fixes the new numbers leaves, and what the writing of the new cells starts from.
 -- A reader need not believe this file: it says what the parts of the call hand to one another.
 use mathlib.Core.Path.{_≡_}
-use mathlib.Core.Bool.{Bool, true, false, _&&_, not}
-use mathlib.Core.List.{List, [], _∷_}
+use mathlib.Core.Bool.{Bool, true, false, not}
+use mathlib.Core.List.{List}
 use Prim.Native.Nat.{ℕ, suc, _+_, _*_, _-_, _≤_, _<_}
 use lib.ListN.{length, getD}
 use lib.Dec.{eqb, ltb}
-use Rattle.bitset.specs.Bits.{bits, wordsFor, member}
+use Rattle.bitset.specs.Bits.{bits, member}
 use Rattle.table.specs.Kind.{capacity, top, freeMark, used}
 use Rattle.table.specs.Table.{cellsOf, dim, face}
 use Rattle.table.specs.Records.{Record, Stored}

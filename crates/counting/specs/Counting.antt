@@ -1,6 +1,6 @@
 -- Choosing by a test, testing and counting the numbers that have a property, picking the k-th of them, sums, and lists given place by place.
 -- A reader must believe these definitions; nothing here is proved.
-use mathlib.Core.Bool.{Bool, true, false, _&&_, _||_, not}
+use mathlib.Core.Bool.{Bool, true, false, _&&_, _||_}
 use mathlib.Core.List.{List, [], _∷_}
 use Prim.Native.Nat.{ℕ, zero, suc, _+_}
 use lib.Dec.{eqb}

@@ -2,15 +2,14 @@
 -- numbers of one range to counted numbers of another, no two to the same one, gives an order of the counts.
 -- What carries each: induction on the range. Assumes nothing.
 use mathlib.Core.Path.{_≡_, refl, sym, ap, _∙_, subst}
-use mathlib.Core.Bool.{Bool, true, false, not, _&&_, _||_}
+use mathlib.Core.Bool.{Bool, true, false, not, _&&_}
 use Prim.Native.Nat.{ℕ, zero, suc, _+_, _≤_, _<_}
 use native.Mathlib.Omega.{arith}
 use borrow.Author.Tests.{eq-eqb, ne-eqb}
 use lib.Dec.{eqb}
-use Rattle.counting.proofs.Cases.{not-true-false}
 use Rattle.counting.specs.Counting.{pick, howMany}
 use Rattle.counting.proofs.Counting.{howMany-alike}
-use Rattle.homology.proofs.Marks.{by-mark, by-order, clash, &&-off}
+use Rattle.homology.proofs.Marks.{by-mark, by-order, &&-off}
 
 -- what one number adds to a count
 abbrev markOf : Bool → ℕ

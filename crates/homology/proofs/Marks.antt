@@ -1,10 +1,9 @@
 -- Marks on and off, and numbers in order: cases, contradiction, and the laws of && and ⊻ that the other files cite.
 -- What carries them: truth tables. Assumes nothing.
-use mathlib.Core.Path.{_≡_, refl, sym, ap, _∙_, subst}
+use mathlib.Core.Path.{_≡_, refl, sym, ap, _∙_}
 use mathlib.Core.Bool.{Bool, true, false, not, _&&_, true≢false}
 use Prim.Native.Nat.{ℕ, zero, suc, _<_}
 use native.Mathlib.Omega.{arith}
-use lib.Dec.{T, eqb, eqb→eq, eqb-refl}
 use Rattle.homology.specs.Cells.{_⊻_}
 
 -- a mark is on or off, and each case knows which

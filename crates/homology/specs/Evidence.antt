@@ -1,7 +1,7 @@
 -- Evidence for hole numbers: one row of cells for each cell number, and the two printed rules, A and B.
 -- A reader must believe these definitions; nothing here is proved.
 use mathlib.Core.Path.{_≡_}
-use mathlib.Core.Bool.{Bool, true, false, _&&_}
+use mathlib.Core.Bool.{true, false, _&&_}
 use Prim.Native.Nat.{ℕ, suc, _-_, _<_}
 use lib.Dec.{eqb}
 use Rattle.counting.specs.Counting.{howMany, someHas}

@@ -21,7 +21,6 @@ use Rattle.table.proofs.Records.{faces-at, live-says}
 use Rattle.audit.proofs.Valid.{valid-is-sound, valid-is-sized}
 use Rattle.merge.specs.Merge.{faceList, sameFaces, mergeVerdict}
 use Rattle.merge.proofs.Pairs.{same-faces-true, same-faces-says}
-use Rattle.merge.proofs.Verdicts.{Mergeable, merge-accepted}
 
 -- a used place of the list is the face there
 listed-face : (t : List ℕ) (c j : ℕ) → j < faces → j < used (dim t c) → getD (faceList t c) j 0 ≡ face t c j

@@ -5,7 +5,6 @@ use mathlib.Core.List.{List}
 use Prim.Native.Nat.{ℕ, min, max}
 use lib.Dec.{eqb}
 use Rattle.counting.specs.Counting.{pick}
-use Rattle.table.specs.Kind.{freeMark}
 use Rattle.table.specs.Table.{cellsOf, dim, face}
 use Rattle.table.specs.Records.{tableOf, freeRecord}
 

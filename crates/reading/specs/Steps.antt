@@ -3,13 +3,11 @@
 use mathlib.Core.Path.{_≡_}
 use mathlib.Core.Bool.{true}
 use mathlib.Core.List.{List}
-use Prim.Native.Nat.{ℕ, _^_, _%_, _≤_, _<_}
+use Prim.Native.Nat.{ℕ, _^_, _≤_, _<_}
 use lib.ListN.{length, getD, set}
-use lib.IntN.{ℤ, pos, negℤ, _+ℤ_, _*ℤ_, natAbs}
-use lib.Dec.{eqb}
-use Rattle.counting.specs.Counting.{pick}
+use lib.IntN.{ℤ, pos, _+ℤ_, natAbs}
 use Rattle.table.specs.Kind.{faces}
-use Rattle.table.specs.Table.{cellsOf, face, Valid, isCell}
+use Rattle.table.specs.Table.{cellsOf, face, Valid}
 use Rattle.calls.specs.Calls.{verdict, onVerdict}
 use Rattle.calls.specs.declared.Verdict.{Verdict}
 use Rattle.reading.specs.declared.Sum.{Sum}

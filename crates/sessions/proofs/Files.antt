@@ -9,7 +9,7 @@ use native.Mathlib.Omega.{arith}
 use borrow.Author.Tests.{not-false, le-ltb}
 use lib.ListN.{length, getD, take, drop, replicate}
 use lib.Seq.{take-append-seam}
-use lib.Dec.{eqb, ltb}
+use lib.Dec.{eqb}
 use Rattle.counting.specs.Counting.{pick}
 use Rattle.calls.specs.Numbers.{numberOf}
 use Rattle.calls.specs.Calls.{onVerdict, leaves, Ends}

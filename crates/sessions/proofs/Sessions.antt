@@ -2,7 +2,6 @@
 -- leaves, refused ones included, is exactly what the published rules give, renumbered where a compaction was called, and it is a semi-simplicial set.
 -- What carries it: emptying and an accepted file leave a valid table, and runs keep it so. Assumes nothing.
 use mathlib.Core.Path.{_≡_, sym, ap, subst}
-use mathlib.Core.Bool.{true}
 use mathlib.Core.List.{List}
 use Prim.Native.Nat.{ℕ}
 use lib.ListN.{length, replicate}
@@ -12,9 +11,8 @@ use Rattle.calls.specs.Numbers.{numberOf}
 use Rattle.calls.specs.Calls.{onVerdict, leaves}
 use Rattle.calls.specs.declared.Verdict.{Verdict}
 use Rattle.calls.specs.declared.Verdict.the-variants.{Accepted}
-use Rattle.calls.proofs.Grounds.{accepted-none-applies}
 use Rattle.table.specs.Kind.{freeMark}
-use Rattle.table.specs.Table.{cellsOf, Valid, onLength}
+use Rattle.table.specs.Table.{cellsOf, Valid}
 use Rattle.audit.specs.Empty.{emptied, emptyVerdict, emptyLeaves}
 use Rattle.audit.proofs.Empties.{emptied-is-valid, accepted-is-sized}
 use Rattle.complex.proofs.Families.{valid-is-semi-simplicial}

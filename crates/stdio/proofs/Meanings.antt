@@ -1,7 +1,7 @@
 -- The system's answer by its sign: below 0 a failure, 0 the end, above 0 so many bytes. What carries it: the cases of an integer; a machine
 -- word that holds an integer gives it back. Assumes nothing.
 use mathlib.Core.Path.{_≡_, refl, sym, ap, subst, _∙_}
-use mathlib.Core.Bool.{Bool, true, false}
+use mathlib.Core.Bool.{true, false}
 use Prim.Native.Nat.{ℕ, zero, suc, _≤_, _<_}
 use native.Mathlib.Omega.{arith}
 use borrow.Author.Tests.{ltb-true}
@@ -13,7 +13,6 @@ use mir.Val.{SFits, Fits, toZ, ofZ}
 use mir.Facts.{toZ-ofZ, fits-natAbs}
 use Rattle.libc.specs.Io.{Moved}
 use Rattle.stdio.specs.declared.Read.the-variants.{Bytes, Failed}
-use Rattle.stdio.specs.declared.Turn.{Turn}
 use Rattle.stdio.specs.declared.Turn.the-variants.{More, Over}
 use Rattle.stdio.specs.Read.{turnOf}
 

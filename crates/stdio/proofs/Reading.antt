@@ -14,9 +14,9 @@ use mir.Val.{SFits}
 use mir.Facts.{toZ-ofZ}
 use Rattle.libc.specs.Io.{Moved}
 use Rattle.stdio.specs.declared.Read.{Read}
-use Rattle.stdio.specs.declared.Read.the-variants.{Bytes, Failed}
+use Rattle.stdio.specs.declared.Read.the-variants.{Bytes}
 use Rattle.stdio.specs.declared.Turn.{Turn}
-use Rattle.stdio.specs.declared.Turn.the-variants.{More, Over}
+use Rattle.stdio.specs.declared.Turn.the-variants.{Over}
 use Rattle.stdio.specs.Read.{turnOf, Further, HasRead}
 use Rattle.stdio.proofs.Meanings.{back, more-inside, end-counts}
 

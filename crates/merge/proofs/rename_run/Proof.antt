@@ -1,7 +1,7 @@
 -- `merge::rename_run` meets its contract. The invariant: whatever pass stood before the first record of the run stands before record c.
 -- The measure: the records left. Assumes nothing.
 use mathlib.Core.Path.{_≡_, refl, _∙_, subst}
-use Prim.Native.Nat.{_-_, _≤_, _<_}
+use Prim.Native.Nat.{_-_, _≤_}
 use borrow.Author.Needs.{needs}
 use native.Mathlib.Omega.{arith}
 use lib.ListN.{length}

@@ -1,6 +1,5 @@
 -- `table::Table::put` meets its contract: the faces are written, then one word. Assumes nothing.
 use borrow.Author.Needs.{needs}
-use native.Mathlib.Omega.{arith}
 use Rattle.table.proofs.Stores.{dim-stored}
 use Rattle.table.proofs.Table.put.Statement.{statement}
 use Rattle.table.proofs.Table.put.Tie as tie

@@ -4,7 +4,7 @@ use mathlib.Core.Path.{_≡_, refl, _∙_}
 use Prim.Native.Nat.{_-_, _≤_}
 use borrow.Author.Needs.{needs}
 use native.Mathlib.Omega.{arith}
-use lib.ListN.{length, getD, length-set}
+use lib.ListN.{length, getD}
 use Rattle.table.specs.Kind.{faces}
 use Rattle.table.proofs.Stores.{Faced, faced-none, faced-more, faced-all}
 use Rattle.table.proofs.Table.put_faces.Statement.{statement}
