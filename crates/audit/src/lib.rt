@@ -8,6 +8,7 @@ ghost use Rattle.table.specs.Table.{cellsOf, dim as dimOf, Sized};
 ghost use Rattle.audit.specs.Audit.{scan, cellBreach, recordSound, lawPlaces, firstBreach, auditGrounds};
 ghost use Rattle.audit.specs.declared.Found.the-variants.{Sound};
 ghost use Rattle.calls.specs.Calls.{verdict, Ends};
+ghost use Rattle.calls.specs.declared.Verdict.the-variants.{Refused};
 ghost use Rattle.audit.specs.Empty.{emptyVerdict, emptyLeaves};
 use calls::Breach;
 use calls::Refusal;
@@ -33,6 +34,14 @@ pub fn empty(t: &mut [u16]) -> Verdict
         k += 1;
     }
     Verdict::Accepted
+}
+
+// Refuses a call that fills an emptied table, which may have taken something in by then: every word is the free mark again.
+pub fn refused(t: &mut [u16], why: Refusal) -> Verdict
+    ensures { λ r. ⌜ Ends (Refused why) (emptyLeaves (now (t .entry))) r (now (t .exit)) ⌝ }
+{
+    empty(t);
+    Verdict::Refused(why)
 }
 
 // Whether record c has a dimension or is free, and every face place that it leaves unused is the free mark.

@@ -15,8 +15,6 @@ ghost use Rattle.corners.specs.Scratch.{Kept};
 ghost use Rattle.intake.specs.Steps.{TakesLine, Gathers, SweepsCell, Sweeps, FaceNumbers, PutsFaces, Fills};
 ghost use Rattle.intake.specs.Import.{importVerdict, importLeaves};
 ghost use Rattle.calls.specs.Calls.{Ends};
-ghost use Rattle.calls.specs.declared.Verdict.the-variants.{Refused};
-ghost use Rattle.audit.specs.Empty.{emptyLeaves};
 use calls::Refusal;
 use calls::Verdict;
 use lines::Scan;
@@ -165,14 +163,6 @@ fn fill(t: &mut [u16], text: &[u8], start: usize, n: usize) -> bool
     true
 }
 
-// Refuses a list of which the table may have taken something in: every word is the free mark again.
-fn refused(t: &mut [u16], why: Refusal) -> Verdict
-    ensures { λ r. ⌜ Ends (Refused why) (emptyLeaves (now (t .entry))) r (now (t .exit)) ⌝ }
-{
-    audit::empty(t);
-    Verdict::Refused(why)
-}
-
 // Fills the table from a part list. Refused with 1, 17, 18, 9, in that order: with 1 no word changes, with any other every word is the
 // free mark.
 pub fn import(t: &mut [u16], text: &[u8]) -> Verdict
@@ -190,7 +180,7 @@ pub fn import(t: &mut [u16], text: &[u8]) -> Verdict
             if fill(t, text, start, n as usize) {
                 Verdict::Accepted
             } else {
-                refused(t, Refusal::NoRoom)
+                audit::refused(t, Refusal::NoRoom)
             }
         }
     }

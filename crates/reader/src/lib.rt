@@ -6,8 +6,6 @@ ghost use Prim.Native.Nat.{_+_, _*_, _≤_, _<_};
 ghost use lib.ListN.{length, replicate};
 ghost use Rattle.table.specs.Kind.{dimensions, faces, width, freeMark, used as usedOf};
 ghost use Rattle.calls.specs.Calls.{Ends};
-ghost use Rattle.calls.specs.declared.Verdict.the-variants.{Refused};
-ghost use Rattle.audit.specs.Empty.{emptyLeaves};
 ghost use Rattle.sketch.specs.Form.{facePlace};
 ghost use Rattle.sketch.specs.Read.{contentsFit, numbersFit, described, readVerdict, readLeaves};
 ghost use Rattle.reader.specs.Taking.{facesAt, FacesAre, Taken, BodyTaken};
@@ -124,14 +122,6 @@ fn take_bodies(t: &mut [u16], file: &[u8], n: usize) -> bool
     true
 }
 
-// Refuses a file of which the table may have taken something in: every word is the free mark again.
-fn refused(t: &mut [u16], why: Refusal) -> Verdict
-    ensures { λ r. ⌜ Ends (Refused why) (emptyLeaves (now (t .entry))) r (now (t .exit)) ⌝ }
-{
-    audit::empty(t);
-    Verdict::Refused(why)
-}
-
 // Fills the table from a sketch file. Refused with 1, 15, 16, 2, in that order: with 1 no word changes, with any other every word is
 // the free mark.
 pub fn read(t: &mut [u16], file: &[u8]) -> Verdict
@@ -146,11 +136,11 @@ pub fn read(t: &mut [u16], file: &[u8]) -> Verdict
         return Verdict::Refused(Refusal::BadContents);
     }
     if !take_bodies(t, file, n) {
-        return refused(t, Refusal::BadNumber);
+        return audit::refused(t, Refusal::BadNumber);
     }
     let found = audit::audit(t);
     match found {
         Verdict::Accepted => Verdict::Accepted,
-        Verdict::Refused(r) => refused(t, r),
+        Verdict::Refused(r) => audit::refused(t, r),
     }
 }
