@@ -17,13 +17,13 @@ use Rattle.homology.specs.Holes.{boundary}
 use Rattle.homology.specs.Evidence.{cellsIn, boundingIn}
 use Rattle.homology.proofs.Marks.{by-mark, &&-off}
 use Rattle.table.specs.Kind.{dimensions}
+use Rattle.calls.specs.declared.Verdict.{Verdict}
 use Rattle.calls.specs.declared.Verdict.the-variants.{Accepted}
 use Rattle.complex.specs.Cells.{cells}
 use Rattle.complex.proofs.Boundary.{valid-is-lawful}
 use Rattle.rows.specs.Rows.{rows}
 use Rattle.reducer.specs.Rule.{ByRule, additionsIn}
 use Rattle.reducer.specs.Reduce.{reduceVerdict, Reduces}
-use Rattle.reducer.specs.declared.Reduced.{Reduced}
 use Rattle.reducer.proofs.Counts.{count-at}
 use Rattle.reducer.proofs.Verdicts.{accepted-valid}
 use Rattle.ceiling.specs.Ceiling.{ceiling, ceilingIn, UnderCeiling}
@@ -97,9 +97,9 @@ pub by-rule-under-cells : (K : Cells) (ev : List ℕ) (adds : ℕ → ℕ) → L
 by-rule-under-cells K ev adds lawful by = additions-before K lawful ev adds by
 
 -- an accepted call, with the rows that it leaves
-pub accepted-under-ceiling : (t ev : List ℕ) (r : Reduced) (ev′ : List ℕ) → Reduces t ev r ev′ → reduceVerdict t ev ≡ Accepted → (p : ℕ) → p < dimensions → getD (r .additions) p 0 ≤ ceilingIn (cells t) ev′ p
-accepted-under-ceiling t ev r ev′ call accepted p low =
+pub accepted-under-ceiling : (t ev a₀ : List ℕ) (r : Verdict) (ev′ a : List ℕ) → Reduces t ev a₀ r ev′ a → reduceVerdict t ev ≡ Accepted → (p : ℕ) → p < dimensions → getD a p 0 ≤ ceilingIn (cells t) ev′ p
+accepted-under-ceiling t ev a₀ r ev′ a call accepted p low =
     let made = call .accepted accepted in
-    let counted : getD (r .additions) p 0 ≡ additionsIn (cells t) (made .adds) p (cells t .size) =
+    let counted : getD a p 0 ≡ additionsIn (cells t) (made .adds) p (cells t .size) =
     ap (λ (l : List ℕ). getD l p 0) (made .counted) ∙ count-at (λ q. additionsIn (cells t) (made .adds) q (cells t .size)) p low in
     rw counted (by-rule-under-ceiling (cells t) ev′ (made .adds) (valid-is-lawful t (accepted-valid t ev accepted)) (made .by-rule) .each p)

@@ -1,16 +1,11 @@
 -- Two permitted outcomes of an exported call are equal: the answer, and what stands in every buffer and behind every pointer.
 -- What carries it: each is what the contract names; the reducer's rule has one outcome. Assumes nothing.
-use mathlib.Core.Path.{_≡_, refl, sym, ap, _∙_}
+use mathlib.Core.Path.{_≡_, refl, sym, _∙_}
 use mathlib.Core.List.{List}
 use Prim.Native.Nat.{ℕ}
-use native.Mathlib.Omega.{arith}
 use lib.IntN.{ℤ}
-use Rattle.calls.specs.declared.Verdict.{Verdict}
-use Rattle.calls.specs.declared.Verdict.the-variants.{Accepted, Refused}
 use Rattle.calls.proofs.Outcomes.{one-outcome}
-use Rattle.complex.specs.Cells.{cells}
-use Rattle.reducer.specs.declared.Reduced.{Reduced}
-use Rattle.reducer.specs.Reduce.{Reduces, Reduction, reduceVerdict}
+use Rattle.reducer.specs.Reduce.{Reduces, reduceVerdict}
 use Rattle.reducer.proofs.OneOutcome.{one-reduction}
 use Rattle.kernel.specs.Face.{Fills}
 use Rattle.kernel.specs.Calls.{EmptyEnds, AuditEnds, ConeEnds, MergeEnds, WeldEnds, CompactEnds, IncidenceEnds, BoundaryEnds, CornerEnds, SheetEnds, ReduceEnds, CheckEnds, WriteEnds, ReadEnds, ImportEnds}
@@ -56,27 +51,14 @@ one-check t ev c h c′ h′ c″ h″ r r′ p q = (
   p .holes-told ∙ sym (q .holes-told),
 )
 
--- what the exported reducer leaves where it accepts is what the call beneath it may leave
-reduces : (t ev ev′ a : List ℕ) → reduceVerdict t ev ≡ Accepted → Reduction (cells t) ev′ a → Reduces t ev (record { verdict = Accepted; additions = a }) ev′
-reduces t ev ev′ a e d =
-    record {
-      verdict-is = sym e;
-      refused-none = λ x f. let z : _≡_ {A = ℕ} 0 1 = cc in absurd (omega arith);
-      refused-left = λ x f. let z : _≡_ {A = ℕ} 0 1 = cc in absurd (omega arith);
-      accepted = λ f. d;
-    }
+-- what the exported reducer leaves is what the call beneath it may leave
+reduces : {t ev a₀ ev′ a : List ℕ} {r : ℕ} → ReduceEnds t ev a₀ r ev′ a → Reduces t ev a₀ (reduceVerdict t ev) ev′ a
+reduces e = record { answer = refl; refused-left = e .refused-left; accepted = e .accepted }
 
 pub one-reduce : (t ev a₀ l a l′ a′ : List ℕ) (r r′ : ℕ) → ReduceEnds t ev a₀ r l a → ReduceEnds t ev a₀ r′ l′ a′ → (r ≡ r′) × (l ≡ l′) × (a ≡ a′)
-one-reduce t ev a₀ l a l′ a′ r r′ p q = go (reduceVerdict t ev) refl
-  where
-    go : (v : Verdict) → reduceVerdict t ev ≡ v → (r ≡ r′) × (l ≡ l′) × (a ≡ a′)
-    go Accepted e =
-        let same = one-reduction t ev _ _ l l′ (reduces t ev l a e (p .accepted e)) (reduces t ev l′ a′ e (q .accepted e)) in
-        (p .answer ∙ sym (q .answer), same .1, ap (λ (x : Reduced). x .additions) (same .0))
-    go (Refused x) e =
-        let mine = p .refused-left x e in
-        let other = q .refused-left x e in
-        (p .answer ∙ sym (q .answer), mine .0 ∙ sym (other .0), mine .1 ∙ sym (other .1))
+one-reduce t ev a₀ l a l′ a′ r r′ p q =
+    let same = one-reduction t ev a₀ l l′ a a′ _ _ (reduces p) (reduces q) in
+    (p .answer ∙ sym (q .answer), same .1, same .2)
 
 pub one-write : (t d l l′ : List ℕ) (o r r′ v v′ : ℕ) → WriteEnds t d o r l v → WriteEnds t d o r′ l′ v′ → (r ≡ r′) × (l ≡ l′) × (v ≡ v′)
 one-write t d l l′ o r r′ v v′ p q = one-filling p q

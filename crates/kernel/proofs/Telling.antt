@@ -3,7 +3,6 @@
 use mathlib.Core.Path.{_≡_, refl, sym, ap, _∙_}
 use mathlib.Core.List.{List}
 use Prim.Native.Nat.{ℕ}
-use native.Mathlib.Omega.{arith}
 use Rattle.homology.specs.Evidence.{cellsIn, holesIn}
 use Rattle.calls.specs.Calls.{Ends}
 use Rattle.counting.specs.Counting.{listed}
@@ -17,8 +16,7 @@ use Rattle.rows.specs.Rows.{rows}
 use Rattle.checker.specs.Check.{checkVerdict, perDimension, Checks}
 use Rattle.checker.specs.declared.Checked.{Checked}
 use Rattle.compaction.specs.Call.{Compacts}
-use Rattle.reducer.specs.Reduce.{Reduces, reduceVerdict}
-use Rattle.reducer.specs.declared.Reduced.{Reduced}
+use Rattle.reducer.specs.Reduce.{Reduces}
 use Rattle.writer.specs.declared.Written.{Written}
 use Rattle.calls.specs.declared.Named.{Named}
 use Rattle.calls.specs.declared.Named.the-variants.{NoCell}
@@ -52,27 +50,9 @@ filled-by {left} {l} {a} {a′} {a″} {v} {r} old e i q w =
 pub compact-coded : {t list t′ list′ : List ℕ} {v : Verdict} {r : ℕ} → Compacts t list v t′ list′ → r ≡ code v → CompactEnds t list r t′ list′
 compact-coded e q = record { answer = q ∙ ap code (e .answer); table = e .table; numbers = e .numbers }
 
-accepted-not-refused : (v : Verdict) (x : Refusal) → v ≡ Accepted → v ≡ Refused x → ⊥
-accepted-not-refused v x p q = let z : _≡_ {A = ℕ} 0 1 = cc in omega arith
-
-module _ (t ev : List ℕ) (r : Reduced) (ev′ : List ℕ) (h : Reduces t ev r ev′) (old : List ℕ) where
-  pub reduce-accepted : r .verdict ≡ Accepted → ReduceEnds t ev old 0 ev′ (r .additions)
-  reduce-accepted e =
-      let v : reduceVerdict t ev ≡ Accepted = sym (h .verdict-is) ∙ e in
-      record {
-        answer = sym (ap code v);
-        refused-left = λ x q. absurd (accepted-not-refused (reduceVerdict t ev) x v q);
-        accepted = λ q. h .accepted q;
-      }
-
-  pub reduce-refused : (x : Refusal) (n : ℕ) → r .verdict ≡ Refused x → n ≡ packedOf x → ReduceEnds t ev old n ev′ old
-  reduce-refused x n e q =
-      let v : reduceVerdict t ev ≡ Refused x = sym (h .verdict-is) ∙ e in
-      record {
-        answer = q ∙ sym (ap code v);
-        refused-left = λ y w. (h .refused-left y w, refl);
-        accepted = λ w. absurd (accepted-not-refused (reduceVerdict t ev) x w v);
-      }
+-- a reduction, with its rows and its counts
+pub reduce-coded : {t ev a₀ ev′ a : List ℕ} {v : Verdict} {r : ℕ} → Reduces t ev a₀ v ev′ a → r ≡ code v → ReduceEnds t ev a₀ r ev′ a
+reduce-coded e q = record { answer = q ∙ ap code (e .answer); refused-left = e .refused-left; accepted = e .accepted }
 
 module _ (t ev : List ℕ) (r : Checked) (h : Checks t ev r) (cells₀ holes₀ : List ℕ) where
   pub check-accepted : r .verdict ≡ Accepted → CheckEnds t ev cells₀ holes₀ 0 (r .cells) (r .holes)

@@ -130,16 +130,7 @@ pub extern "C" fn bt_sheet(table: &[u16], yes: &mut u8) -> u32
 pub extern "C" fn bt_reduce(table: &[u16], evidence: &mut [u64], additions: &mut [u64; 7]) -> u32
     ensures { λ r. ⌜ ReduceEnds (now (table .entry)) (now (evidence .entry)) (now (additions .entry)) r (now (evidence .exit)) (now (additions .exit)) ⌝ }
 {
-    let answer = reducer::reduce(table, evidence);
-    let verdict = answer.verdict;
-    match verdict {
-        Verdict::Accepted => {
-            let counts = answer.additions;
-            *additions = counts;
-            0
-        }
-        Verdict::Refused(r) => calls::packed(r),
-    }
+    code_of(reducer::reduce(table, evidence, additions))
 }
 
 #[no_mangle]

@@ -21,7 +21,6 @@ use Rattle.rows.specs.Rows.{rowWidth, evidenceWords, rowOf}
 use Rattle.rows.proofs.RowWords.{getD-rowOf}
 use Rattle.reducer.specs.Rule.{LargestOf, Additions, stop, add, ByRule, additionsIn}
 use Rattle.reducer.specs.Reduce.{counts, reduceVerdict, Reduction, Reduces}
-use Rattle.reducer.specs.declared.Reduced.{Reduced}
 use Rattle.reducer.proofs.Meeting.{row-apart}
 
 -- ---- one row
@@ -117,21 +116,18 @@ one-accepted K ev ev′ made made′ r r′ =
       same .0,
     )
 
-same-answer : (r r′ : Reduced) → r .verdict ≡ r′ .verdict → r .additions ≡ r′ .additions → r ≡ r′
-same-answer r r′ e f = λ i. record { verdict = e i; additions = f i }
-
 -- two outcomes that the contract permits are one
-pub one-reduction : (t ev : List ℕ) (r r′ : Reduced) (l l′ : List ℕ) → Reduces t ev r l → Reduces t ev r′ l′ → (r ≡ r′) × (l ≡ l′)
-one-reduction t ev r r′ l l′ h h′ = by-verdict (reduceVerdict t ev) refl
+pub one-reduction : (t ev a₀ l l′ a a′ : List ℕ) (r r′ : Verdict) → Reduces t ev a₀ r l a → Reduces t ev a₀ r′ l′ a′ → (r ≡ r′) × (l ≡ l′) × (a ≡ a′)
+one-reduction t ev a₀ l l′ a a′ r r′ h h′ = by-verdict (reduceVerdict t ev) refl
   where
-    said : r .verdict ≡ r′ .verdict
-    said = h .verdict-is ∙ sym (h′ .verdict-is)
+    said : r ≡ r′
+    said = h .answer ∙ sym (h′ .answer)
 
-    by-verdict : (d : Verdict) → reduceVerdict t ev ≡ d → (r ≡ r′) × (l ≡ l′)
+    by-verdict : (d : Verdict) → reduceVerdict t ev ≡ d → (r ≡ r′) × (l ≡ l′) × (a ≡ a′)
     by-verdict Accepted e =
-        let both = one-accepted (cells t) l l′ (r .additions) (r′ .additions) (h .accepted e) (h′ .accepted e) in
-        (same-answer r r′ said (both .0), both .1)
-    by-verdict (Refused x) e = (
-      same-answer r r′ said (h .refused-none x e ∙ sym (h′ .refused-none x e)),
-      h .refused-left x e ∙ sym (h′ .refused-left x e),
-    )
+        let both = one-accepted (cells t) l l′ a a′ (h .accepted e) (h′ .accepted e) in
+        (said, both .1, both .0)
+    by-verdict (Refused x) e =
+        let mine = h .refused-left x e in
+        let other = h′ .refused-left x e in
+        (said, mine .0 ∙ sym (other .0), mine .1 ∙ sym (other .1))

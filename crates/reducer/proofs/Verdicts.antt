@@ -8,9 +8,8 @@ use Prim.{tt}
 use Prim.Native.Nat.{ℕ}
 use native.Mathlib.Omega.{arith}
 use borrow.Author.Tests.{eq-eqb, not-false}
-use lib.ListN.{length, replicate}
+use lib.ListN.{length}
 use Rattle.counting.proofs.Cases.{and-both, and-left, and-right}
-use Rattle.table.specs.Kind.{dimensions}
 use Rattle.table.specs.Table.{Valid, sized}
 use Rattle.calls.specs.Calls.{verdict}
 use Rattle.calls.specs.declared.Refusal.{Refusal}
@@ -24,7 +23,6 @@ use Rattle.rows.specs.Rows.{evidenceWords}
 use Rattle.rows.specs.Lengths.{evidenceFits, lengthsFit}
 use Rattle.rows.proofs.Lengths.{fitting-length}
 use Rattle.reducer.specs.Reduce.{reduceGrounds, reduceVerdict, Reduces, Reduction}
-use Rattle.reducer.specs.declared.Reduced.{Reduced}
 
 module _ (t ev : List ℕ) where
   pub refuses-length : lengthsFit t ev ≡ false → Refused Length ≡ reduceVerdict t ev
@@ -55,18 +53,16 @@ module _ (t ev : List ℕ) where
     pub accepted-long : length ev ≡ evidenceWords (cells t)
     accepted-long = fitting-length t ev (both-on .0)
 
-    pub accepted-ends : (r : Reduced) (ev′ : List ℕ) → r .verdict ≡ Accepted → Reduction (cells t) ev′ (r .additions) → Reduces t ev r ev′
-    accepted-ends r ev′ e done = record {
-      verdict-is = e ∙ sym yes;
-      refused-none = λ x h. let z : _≡_ {A = ℕ} 0 1 = cc in absurd (omega arith);
+    pub accepted-ends : (a₀ ev′ a : List ℕ) → Reduction (cells t) ev′ a → Reduces t ev a₀ Accepted ev′ a
+    accepted-ends a₀ ev′ a done = record {
+      answer = sym yes;
       refused-left = λ x h. let z : _≡_ {A = ℕ} 0 1 = cc in absurd (omega arith);
       accepted = λ h. done;
     }
 
-  pub refused-ends : (x : Refusal) (r : Reduced) → reduceVerdict t ev ≡ Refused x → r .verdict ≡ Refused x → r .additions ≡ replicate dimensions 0 → Reduces t ev r ev
-  refused-ends x r why e none = record {
-    verdict-is = e ∙ sym why;
-    refused-none = λ y h. none;
-    refused-left = λ y h. refl;
+  pub refused-ends : (x : Refusal) (a : List ℕ) → reduceVerdict t ev ≡ Refused x → Reduces t ev a (Refused x) ev a
+  refused-ends x a why = record {
+    answer = sym why;
+    refused-left = λ y h. (refl, refl);
     accepted = λ h. let z : _≡_ {A = ℕ} 0 1 = cc in absurd (omega arith);
   }

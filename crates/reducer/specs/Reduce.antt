@@ -1,9 +1,8 @@
--- What the reducer answers and leaves: on acceptance rows and counts by the rule; on a refusal no count and no word changed.
+-- What the reducer answers and leaves: on acceptance rows and counts by the rule; on a refusal no word and no count changed.
 -- A reader must believe these definitions; nothing here is proved.
 use mathlib.Core.Path.{_≡_}
 use mathlib.Core.List.{List, []}
 use Prim.Native.Nat.{ℕ}
-use lib.ListN.{replicate}
 use Rattle.counting.specs.Counting.{listed}
 use Rattle.homology.specs.Cells.{Cells}
 use Rattle.table.specs.Kind.{dimensions}
@@ -15,7 +14,6 @@ use Rattle.audit.specs.Audit.{groundsWith}
 use Rattle.complex.specs.Cells.{cells}
 use Rattle.rows.specs.Lengths.{evidenceFits}
 use Rattle.reducer.specs.Rule.{ByRule, additionsIn}
-use Rattle.reducer.specs.declared.Reduced.{Reduced}
 
 -- the reducer has no grounds of its own beside the lengths and the table's validity
 abbrev pub reduceGrounds : List ℕ → List ℕ → List Ground
@@ -34,8 +32,7 @@ pub record Reduction (K : Cells) (ev′ : List ℕ) (additions : List ℕ) : Typ
   pub by-rule : ByRule K ev′ adds
   pub counted : additions ≡ counts (λ p. additionsIn K adds p (K .size))
 
-pub record Reduces (t ev : List ℕ) (r : Reduced) (ev′ : List ℕ) : Type 0 where
-  pub verdict-is : r .verdict ≡ reduceVerdict t ev
-  pub refused-none : (x : Refusal) → reduceVerdict t ev ≡ Refused x → r .additions ≡ replicate dimensions 0
-  pub refused-left : (x : Refusal) → reduceVerdict t ev ≡ Refused x → ev′ ≡ ev
-  pub accepted : reduceVerdict t ev ≡ Accepted → Reduction (cells t) ev′ (r .additions)
+pub record Reduces (t ev additions₀ : List ℕ) (r : Verdict) (ev′ additions : List ℕ) : Type 0 where
+  pub answer : r ≡ reduceVerdict t ev
+  pub refused-left : (x : Refusal) → reduceVerdict t ev ≡ Refused x → (ev′ ≡ ev) × (additions ≡ additions₀)
+  pub accepted : reduceVerdict t ev ≡ Accepted → Reduction (cells t) ev′ additions

@@ -23,12 +23,6 @@ const MIDDLE_WORDS: usize = 4;
 
 const MIDDLE: usize = MIDDLE_WORDS * SMALL;
 
-// The verdict, and beside it the additions made in each dimension; all 0 on a refusal.
-pub struct Reduced {
-    pub verdict: Verdict,
-    pub additions: [u64; Table::DIMENSIONS],
-}
-
 // Finishes row c, whose boundary is b: while an earlier row has the same largest cell, it is added. Answers the additions made.
 // Of the table only the contract speaks.
 fn finish_row(
@@ -99,15 +93,16 @@ fn reduce_rows(
     evidence: &mut [u64],
     kept: &mut [u64],
     owner: &mut [u16],
-) -> [u64; Table::DIMENSIONS]
+    additions: &mut [u64; Table::DIMENSIONS],
+)
     requires { ⌜ Frame (viewOf (now t)) ⌝ }
     requires { ⌜ Roomy (cells (now t)) (now evidence) (now kept) (now owner) ⌝ }
     requires { ⌜ Fresh (now evidence) (now owner) ⌝ }
-    ensures { λ r. ⌜ Reduction (cells (now (t .entry))) (now (evidence .exit)) r ⌝ }
+    ensures { λ _. ⌜ Reduction (cells (now (t .entry))) (now (evidence .exit)) (now (additions .exit)) ⌝ }
 {
     let n = view::size(t);
     let w = bitset::words_for(n);
-    let mut additions = [0; Table::DIMENSIONS];
+    *additions = [0; Table::DIMENSIONS];
     for c in 0..n {
         let p = view::dim(t, c);
         if p >= Table::DIMENSIONS {
@@ -116,7 +111,6 @@ fn reduce_rows(
         let made = reduce_row(t, c, w, evidence, kept, owner);
         additions[p] += made;
     }
-    additions
 }
 
 // Sets every word to 0.
@@ -131,58 +125,60 @@ fn clear(words: &mut [u64])
 }
 
 // Takes all rows of a table of one word to a row. A small table asks for small arrays: setting large ones to 0 would cost more than its rows.
-fn fill_small(t: &[u16], evidence: &mut [u64]) -> [u64; Table::DIMENSIONS]
+fn fill_small(t: &[u16], evidence: &mut [u64], additions: &mut [u64; Table::DIMENSIONS])
     requires { ⌜ Frame (viewOf (now t)) ⌝ }
     requires { ⌜ length (now evidence) ≡ evidenceWords (cells (now t)) ⌝ }
     requires { ⌜ cells (now t) .size ≤ small ⌝ }
     requires { ⌜ Blank (now evidence) ⌝ }
-    ensures { λ r. ⌜ Reduction (cells (now (t .entry))) (now (evidence .exit)) r ⌝ }
+    ensures { λ _. ⌜ Reduction (cells (now (t .entry))) (now (evidence .exit)) (now (additions .exit)) ⌝ }
 {
     let mut kept = [0; SMALL];
     let mut owner = [Table::FREE; SMALL];
-    reduce_rows(t, evidence, &mut kept, &mut owner)
+    reduce_rows(t, evidence, &mut kept, &mut owner, additions);
 }
 
 // The same for up to four words to a row.
-fn fill_middle(t: &[u16], evidence: &mut [u64]) -> [u64; Table::DIMENSIONS]
+fn fill_middle(t: &[u16], evidence: &mut [u64], additions: &mut [u64; Table::DIMENSIONS])
     requires { ⌜ Frame (viewOf (now t)) ⌝ }
     requires { ⌜ length (now evidence) ≡ evidenceWords (cells (now t)) ⌝ }
     requires { ⌜ cells (now t) .size ≤ middle ⌝ }
     requires { ⌜ Blank (now evidence) ⌝ }
-    ensures { λ r. ⌜ Reduction (cells (now (t .entry))) (now (evidence .exit)) r ⌝ }
+    ensures { λ _. ⌜ Reduction (cells (now (t .entry))) (now (evidence .exit)) (now (additions .exit)) ⌝ }
 {
     let mut kept = [0; MIDDLE * MIDDLE_WORDS];
     let mut owner = [Table::FREE; MIDDLE];
-    reduce_rows(t, evidence, &mut kept, &mut owner)
+    reduce_rows(t, evidence, &mut kept, &mut owner, additions);
 }
 
 // The same for any table.
-fn fill_large(t: &[u16], evidence: &mut [u64]) -> [u64; Table::DIMENSIONS]
+fn fill_large(t: &[u16], evidence: &mut [u64], additions: &mut [u64; Table::DIMENSIONS])
     requires { ⌜ Frame (viewOf (now t)) ⌝ }
     requires { ⌜ length (now evidence) ≡ evidenceWords (cells (now t)) ⌝ }
     requires { ⌜ Blank (now evidence) ⌝ }
-    ensures { λ r. ⌜ Reduction (cells (now (t .entry))) (now (evidence .exit)) r ⌝ }
+    ensures { λ _. ⌜ Reduction (cells (now (t .entry))) (now (evidence .exit)) (now (additions .exit)) ⌝ }
 {
     let mut kept = [0; Table::CAPACITY * bitset::FULL];
     let mut owner = [Table::FREE; Table::CAPACITY];
-    reduce_rows(t, evidence, &mut kept, &mut owner)
+    reduce_rows(t, evidence, &mut kept, &mut owner, additions);
 }
 
 // The whole of the work, over any old contents.
-fn fill(t: &[u16], evidence: &mut [u64]) -> [u64; Table::DIMENSIONS]
+fn fill(t: &[u16], evidence: &mut [u64], additions: &mut [u64; Table::DIMENSIONS])
     requires { ⌜ Frame (viewOf (now t)) ⌝ }
     requires { ⌜ length (now evidence) ≡ evidenceWords (cells (now t)) ⌝ }
-    ensures { λ r. ⌜ Reduction (cells (now (t .entry))) (now (evidence .exit)) r ⌝ }
+    ensures { λ _. ⌜ Reduction (cells (now (t .entry))) (now (evidence .exit)) (now (additions .exit)) ⌝ }
 {
     clear(evidence);
     let n = view::size(t);
     if n <= SMALL {
-        return fill_small(t, evidence);
+        fill_small(t, evidence, additions);
+        return;
     }
     if n <= MIDDLE {
-        return fill_middle(t, evidence);
+        fill_middle(t, evidence, additions);
+        return;
     }
-    fill_large(t, evidence)
+    fill_large(t, evidence, additions);
 }
 
 // Whether the reducer is refused: 1 for a length, 2 for a table that is not valid.
@@ -195,22 +191,17 @@ fn judge(t: &[u16], evidence: &[u64]) -> Verdict
     audit::audit(t)
 }
 
-// Fills the evidence by the printed rule. Refused with 1, 2, in that order; then no word changes.
-pub fn reduce(t: &[u16], evidence: &mut [u64]) -> Reduced
-    ensures { λ r. ⌜ Reduces (now (t .entry)) (now (evidence .entry)) r (now (evidence .exit)) ⌝ }
+// Fills the evidence by the printed rule, and tells the additions made in each dimension. Refused with 1, 2, in that order; then no
+// word and no count changes.
+pub fn reduce(t: &[u16], evidence: &mut [u64], additions: &mut [u64; Table::DIMENSIONS]) -> Verdict
+    ensures { λ r. ⌜ Reduces (now (t .entry)) (now (evidence .entry)) (now (additions .entry)) r (now (evidence .exit)) (now (additions .exit)) ⌝ }
 {
     let v = judge(t, evidence);
     match v {
-        Verdict::Refused(x) => Reduced {
-            verdict: Verdict::Refused(x),
-            additions: [0; Table::DIMENSIONS],
-        },
+        Verdict::Refused(x) => Verdict::Refused(x),
         Verdict::Accepted => {
-            let additions = fill(t, evidence);
-            Reduced {
-                verdict: Verdict::Accepted,
-                additions: additions,
-            }
+            fill(t, evidence, additions);
+            Verdict::Accepted
         }
     }
 }

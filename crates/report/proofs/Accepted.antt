@@ -22,7 +22,6 @@ use Rattle.complex.proofs.Boundary.{valid-is-lawful}
 use Rattle.rows.specs.Rows.{evidenceWords, rows}
 use Rattle.sketch.proofs.Pieces.{pieces-cong}
 use Rattle.reducer.specs.Reduce.{reduceVerdict, Reduces}
-use Rattle.reducer.specs.declared.Reduced.{Reduced}
 use Rattle.reducer.proofs.Meeting.{by-rule-meets}
 use Rattle.reducer.proofs.Verdicts.{reducer-accepts}
 use Rattle.checker.specs.Check.{checkVerdict, perDimension, Checks}
@@ -33,8 +32,8 @@ use Rattle.report.specs.Lines.{line, linesOf}
 use Rattle.report.specs.Report.{HoleLines}
 
 -- THEOREM: for every valid table and evidence of its length the reducer accepts, and the checker accepts its rows.
-pub reducer-is-accepted : (t ev ev′ : List ℕ) (r : Reduced) → Valid t → length ev ≡ evidenceWords (cells t) → Reduces t ev r ev′ → (reduceVerdict t ev ≡ Accepted) × (checkVerdict t ev′ ≡ Accepted)
-reducer-is-accepted t ev ev′ r v long h =
+pub reducer-is-accepted : (t ev a₀ ev′ a : List ℕ) (r : Verdict) → Valid t → length ev ≡ evidenceWords (cells t) → Reduces t ev a₀ r ev′ a → (reduceVerdict t ev ≡ Accepted) × (checkVerdict t ev′ ≡ Accepted)
+reducer-is-accepted t ev a₀ ev′ a r v long h =
     let granted = reducer-accepts t ev v long in
     let w = h .accepted granted in
     (granted, checker-accepts-iff-rules t ev′ v (w .by-rule .size) .1 (by-rule-meets (cells t) ev′ (w .adds) (valid-is-lawful t v) (w .by-rule)))
@@ -57,9 +56,9 @@ lines-cong n n′ h e =
     pieces-cong (λ p. line p (n p) (h p)) (λ p. line p (n′ p) (h p)) dimensions
     (λ p l. ap (λ (k : ℕ). line p k (h p)) (e p l))
 
-module _ (t ev ev′ : List ℕ) (a : Reduced) (r : Checked) (v : Valid t) (long : length ev ≡ evidenceWords (cells t)) (h : Reduces t ev a ev′) (k : Checks t ev′ r) where
+module _ (t ev a₀ ev′ a : List ℕ) (d : Verdict) (r : Checked) (v : Valid t) (long : length ev ≡ evidenceWords (cells t)) (h : Reduces t ev a₀ d ev′ a) (k : Checks t ev′ r) where
   accepted : checkVerdict t ev′ ≡ Accepted
-  accepted = reducer-is-accepted t ev ev′ a v long h .1
+  accepted = reducer-is-accepted t ev a₀ ev′ a d v long h .1
 
   answered : (f : ℕ → ℕ) (xs : List ℕ) → xs ≡ perDimension (checkVerdict t ev′) f → (p : ℕ) → p ≤ top → getD xs p 0 ≡ f p
   answered f xs q p l =

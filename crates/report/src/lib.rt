@@ -131,7 +131,8 @@ fn count_holes(t: &[u16], evidence: &mut [u64]) -> Text
     ensures { λ r. ⌜ HoleLines (now (t .entry)) (textOf r) ⌝ }
     ensures { λ r. ⌜ (r .len < room) × ZerosAfter r ⌝ }
 {
-    reducer::reduce(t, evidence);
+    let mut additions = [0; Table::DIMENSIONS];
+    reducer::reduce(t, evidence, &mut additions);
     let checked = checker::check(t, evidence);
     let cells = checked.cells;
     let holes = checked.holes;

@@ -8,7 +8,7 @@ use Rattle.reducer.proofs.fill_small.Tie as tie
 
 reduce-rows-requires : tie.Need-reduce-rows-requires
 reduce-rows-requires c κs =
-    let a = c .before .before .before .before .before in
+    let a = c .before .before .before .before .before .before in
     (a .pre .0, arrays-ready (cells (a .args .t .now)) _ 1 (a .pre .1 .0) (a .pre .1 .1 .1) (omega (arith, a .pre .1 .1 .0)))
 
 pub fill-small-spec : {M : Type 1} → statement M
