@@ -1,13 +1,15 @@
 // Merge, the identification of two cells: every face compared, in order; then one pass over the records.
 ghost use mathlib.Core.Path.{_≡_};
 ghost use Prim.Native.Nat.{_+_, _≤_, _<_};
+ghost use lib.Dec.{eqb};
+ghost use Rattle.counting.specs.Counting.{pick};
 ghost use Rattle.table.specs.Kind.{top};
 ghost use Rattle.table.specs.Table.{cellsOf, dim as dimOf, face as faceOf, Valid};
 ghost use Rattle.table.specs.Records.{Stored};
 ghost use Rattle.audit.specs.Audit.{grounds};
 ghost use Rattle.calls.specs.Calls.{verdict, Ends};
 ghost use Rattle.merge.specs.Merge.{sameFaces, pairGrounds, mergeVerdict, mergeAnswer, mergeLeaves, merged};
-ghost use Rattle.merge.specs.Writing.{sent as sentTo, sentRecord, Started, GoesOn};
+ghost use Rattle.merge.specs.Writing.{sentRecord, Started, GoesOn};
 use calls::Named;
 use calls::Refusal;
 use calls::Verdict;
@@ -32,7 +34,7 @@ fn same_faces(t: &[u16], a: usize, b: usize) -> bool
 
 // A number, with the kept one for the one that goes. A merge sends face words so, a weld the words of its map.
 pub fn sent(f: u16, kept: u16, gone: u16) -> u16
-    ensures { λ r. ⌜ r ≡ sentTo kept gone f ⌝ }
+    ensures { λ r. ⌜ r ≡ pick (eqb f gone) kept f ⌝ }
 {
     if f == gone {
         return kept;

@@ -1,7 +1,7 @@
 -- What the reducer answers, way by way out of the code; that it refuses nothing but a wrong length and a table that is not valid; and
 -- what acceptance says of its input.
 -- What carries it: the cases of the two grounds. Assumes nothing.
-use mathlib.Core.Path.{_≡_, refl, sym, ap, _∙_}
+use mathlib.Core.Path.{_≡_, refl, sym, ap}
 use mathlib.Core.Bool.{true, false, not}
 use mathlib.Core.List.{List}
 use Prim.{tt}

@@ -16,7 +16,6 @@ use Rattle.table.specs.Table.{Valid}
 use Rattle.calls.specs.declared.Verdict.{Verdict}
 use Rattle.calls.specs.declared.Verdict.the-variants.{Accepted}
 use Rattle.counting.proofs.Listed.{getD-listed}
-use Rattle.audit.proofs.Valid.{valid-is-sound}
 use Rattle.complex.specs.Cells.{cells}
 use Rattle.complex.proofs.Boundary.{valid-is-lawful}
 use Rattle.rows.specs.Rows.{evidenceWords, rows}
