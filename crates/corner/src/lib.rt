@@ -19,10 +19,13 @@ fn corner_of(t: &[u16], c: u16, p: u16, k: u16) -> u16
     if p == 0 {
         return c;
     }
+    // Taken as a part of itself, the table is handed on in two registers; as it came, it would be copied at each call.
+    let n = t.len();
+    let whole = &t[..n];
     if k < p {
-        return corner_of(t, Table::face(t, c as usize, p as usize), p - 1, k);
+        return corner_of(whole, Table::face(t, c as usize, p as usize), p - 1, k);
     }
-    corner_of(t, Table::face(t, c as usize, 0), p - 1, p - 1)
+    corner_of(whole, Table::face(t, c as usize, 0), p - 1, p - 1)
 }
 
 // Corner k of cell c. Refused with 1, 2, 3, 12, in that order.
