@@ -1,7 +1,7 @@
 #!/usr/bin/env python3
 """Holds the house's own rules: a public law is cited somewhere or promised; a must-fail edit is named in words with _ between
-them; and the numbers of the table kind and of the file stand in code under their names. Prints what breaks a rule, and exits 1 if
-anything does.
+them; the numbers of the table kind and of the file stand in code under their names; and the README's map has each crate once.
+Prints what breaks a rule, and exits 1 if anything does.
 """
 import glob
 import os
@@ -69,9 +69,18 @@ def bare_numbers():
                 yield "%s:%d: a number without its name: %s" % (path, at, line.strip())
 
 
+def crate_map():
+    crates = re.findall(r"^([a-z0-9_]+):", open("crates.txt", encoding="utf-8").read(), re.M)
+    part = open("README.md", encoding="utf-8").read().split("\n## The crates\n")[-1].split("\n## ")[0]
+    rows = re.findall(r"^\| `([a-z0-9_]+)` \|", part, re.M)
+    for name in sorted(set(crates) | set(rows)):
+        if rows.count(name) != 1 or name not in crates:
+            yield "README.md: the map has the crate %s %d times" % (name, rows.count(name))
+
+
 def main():
     os.chdir(TOP)
-    wrong = list(lone_laws()) + list(edit_names()) + list(bare_numbers())
+    wrong = list(lone_laws()) + list(edit_names()) + list(bare_numbers()) + list(crate_map())
     for line in wrong:
         print("house: " + line)
     print("house: %d differences" % len(wrong))
