@@ -19,7 +19,7 @@ fn corner_of(t: &[u16], c: u16, p: u16, k: u16) -> u16
     if p == 0 {
         return c;
     }
-    // Taken as a part of itself, the table is handed on in two registers; as it came, it would be copied at each call.
+    // The table as a part of itself: handed on as it came, it would be copied at the start of each call, even of the last, which ends at once.
     let n = t.len();
     let whole = &t[..n];
     if k < p {
