@@ -3,7 +3,7 @@
 -- What carries it: past the used places both have the free mark, so the lists agree where the seven words do. Assumes nothing.
 use mathlib.Core.Path.{_≡_, refl, ap, ap₂, sym, _∙_}
 use mathlib.Core.Bool.{Bool, true, false, not}
-use mathlib.Core.List.{List}
+use mathlib.Core.List.{List, []}
 use mathlib.Core.Logic.{⊎-elim, _↔_}
 use Prim.Native.Nat.{ℕ, _<_}
 use native.Mathlib.Omega.{arith}
@@ -66,3 +66,12 @@ module _ (t : List ℕ) (a b : ℕ) (v : Valid t) (x : Live t a) (y : Live t b) 
     λ r e. let z : _≡_ {A = ℕ} 0 1 = cc (r .1, equal-lists-accepted e) in omega arith,
     λ m. (FacesDiffer, different-lists-refused m),
   )
+
+-- a point has no faces, so any two points may be merged
+no-faces : (t : List ℕ) (c : ℕ) → dim t c ≡ 0 → faceList t c ≡ []
+unfolding faceList
+no-faces t c e = ap (λ (p : ℕ). take (used p) (facesOf t c)) e
+
+pub points-accepted :
+    (t : List ℕ) (a b : ℕ) → Valid t → Live t a → Live t b → (a ≡ b → ⊥) → dim t a ≡ 0 → dim t b ≡ 0 → mergeVerdict t a b ≡ Accepted
+points-accepted t a b v x y n p q = equal-lists-accepted t a b v x y n (p ∙ sym q) (no-faces t a p ∙ sym (no-faces t b q))
