@@ -1,4 +1,6 @@
 // Emptying a table, and the audit: one pass over the cells, left by its label at the first breach.
+#![tactic(auto)]
+
 ghost use Rattle.std.specs.Prelude.{◌≡◌, true, ◌⊎◌, ◌≤◌, ◌<◌};
 ghost use Rattle.table.specs.Kind.{top, faces, free_mark, used as used_of};
 ghost use Rattle.table.specs.Table.{cells_of, dim as dim_of, Sized};

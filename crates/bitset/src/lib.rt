@@ -1,5 +1,7 @@
 // Sets of cell numbers in 64-bit words: bit b of word w stands for the number 64·w + b. Nothing here speaks of tables.
 // These are parts for the crates above, which show what each one asks; none is a public call.
+#![tactic(auto)]
+
 ghost use Rattle.std.specs.Prelude.{◌≡◌, ◌*◌, ◌/◌, ◌^◌, ◌≤◌, ◌<◌, length};
 ghost use Rattle.bitset.specs.Bits.{words_for, full_width, member, toggled, sum_of, IsLowest, LargestIs, nothing_in, IsWithin};
 

@@ -1,5 +1,7 @@
 // What a call answers: accepted, or refused with a number of the published list. Every crate with a call stands on this one, and it
 // knows no table.
+#![tactic(auto)]
+
 ghost use Rattle.std.specs.Prelude.{◌≡◌, ◌≤◌};
 ghost use Rattle.calls.specs.Numbers.{number_of};
 ghost use Rattle.calls.specs.Packed.{breach_bits, packed_of};

@@ -1,4 +1,6 @@
 // The checker of evidence for a hole count. It holds no array of rows, so that it runs on stations with little stack.
+#![tactic(auto)]
+
 ghost use Rattle.std.specs.Prelude.{◌≡◌, ◌+◌, ◌≤◌, ◌<◌, length, replicate};
 ghost use Rattle.table.specs.Kind.{dimensions};
 ghost use Rattle.calls.specs.Calls.{verdict};

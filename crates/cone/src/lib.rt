@@ -1,5 +1,7 @@
 // Cone over a closed set of marked cells. All new numbers are fixed before a face is written, since after merges a face can have a
 // higher number than its cell.
+#![tactic(auto)]
+
 ghost use Rattle.std.specs.Prelude.{◌≡◌};
 ghost use Rattle.calls.specs.Calls.{verdict, Ends};
 ghost use Rattle.calls.specs.declared.Verdict.TheVariants.{Accepted};

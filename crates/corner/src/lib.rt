@@ -1,4 +1,6 @@
 // Corners: the lookup calls itself on a face and hands on its dimension, which is one less than the cell's and so falls at each call.
+#![tactic(auto)]
+
 ghost use Rattle.std.specs.Prelude.{◌≡◌, ◌≤◌};
 ghost use Rattle.table.specs.Table.{dim as dim_of, Valid, Live};
 ghost use Rattle.corner.specs.Corner.{corner_of, corner_answer};

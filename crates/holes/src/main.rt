@@ -1,5 +1,7 @@
 // Reads one sketch file from standard input and prints what is said of it: seven lines, or one line with the refusal's number. A read or a
 // write that fails is told in one line on standard error.
+#![tactic(auto)]
+
 use stdio::Read;
 
 // Prints what is said of a file.

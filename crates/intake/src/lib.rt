@@ -1,6 +1,8 @@
 // Taking a part list in. The table is its own scratch: its records first hold corners, in the order that the cells' numbers have.
 // First the points and the lines, each where it belongs; then, from the top down, the facets of every cell; and when the list of
 // cells is complete the corners of each cell give way to its faces, from the top down too, since a face stands below its cell.
+#![tactic(auto)]
+
 ghost use Rattle.std.specs.Prelude.{◌≡◌, true, [], ◌≤◌, ◌<◌, take};
 ghost use Rattle.table.specs.Kind.{capacity, faces, free_mark};
 ghost use Rattle.table.specs.Table.{cells_of};

@@ -1,5 +1,7 @@
 // The face for C and Rust: one function for each public call, no logic of its own. Each answers 0 or the refusal in one word, and writes
 // a value on acceptance alone. A 7 in a signature is the number of dimensions, as the header for C has it.
+#![tactic(auto)]
+
 ghost use Rattle.std.specs.Prelude.{◌≡◌};
 ghost use Rattle.calls.specs.Calls.{Ends};
 ghost use Rattle.kernel.specs.Face.{code, named_code, named_value};

@@ -1,4 +1,6 @@
 // The scanner of a part list: one number, one line and the count line at a place of a lent text, on any bytes at all.
+#![tactic(auto)]
+
 ghost use Rattle.std.specs.Prelude.{◌≡◌, ◌+◌, ◌≤◌, ◌<◌, length, take};
 ghost use Rattle.partlist.specs.Text.{newline, space, digit_zero, most_digits, longest_line};
 ghost use Rattle.partlist.specs.Indices.{repeated as repeated_in, line_fits};

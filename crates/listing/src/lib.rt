@@ -1,5 +1,7 @@
 // What the program `parts` writes, as a function from bytes to bytes: the sketch file of a part list's table of 512 records, or one
 // line with the refusal's number.
+#![tactic(auto)]
+
 ghost use Rattle.std.specs.Prelude.{◌≡◌, ◌≤◌, length, take};
 ghost use Rattle.calls.specs.Numbers.{number_of};
 ghost use Rattle.table.specs.Table.{Valid};

@@ -1,4 +1,6 @@
 // Merge, the identification of two cells: every face compared, in order; then one pass over the records.
+#![tactic(auto)]
+
 ghost use Rattle.std.specs.Prelude.{◌≡◌, ◌+◌, ◌≤◌, ◌<◌, eqb};
 ghost use Rattle.counting.specs.Counting.{pick};
 ghost use Rattle.table.specs.Kind.{top};

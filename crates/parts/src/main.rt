@@ -1,5 +1,7 @@
 // Reads one part list from standard input and writes the sketch file of its table at N = 512, or one line with the refusal's number. A read
 // or a write that fails is told in one line on standard error.
+#![tactic(auto)]
+
 use stdio::Read;
 
 // Writes what comes of a text.

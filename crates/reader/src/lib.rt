@@ -1,5 +1,7 @@
 // The sketch file's reader, on any bytes at all. The table's old contents are not looked at: it is emptied first. Then the contents are
 // tested, and the bodies go into the table, record by record: a record that is no longer free has a number of a lower body.
+#![tactic(auto)]
+
 ghost use Rattle.std.specs.Prelude.{◌≡◌, true, ◌+◌, ◌*◌, ◌≤◌, ◌<◌, length, replicate};
 ghost use Rattle.table.specs.Kind.{dimensions, faces, width, free_mark, used as used_of};
 ghost use Rattle.calls.specs.Calls.{Ends};

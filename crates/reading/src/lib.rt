@@ -1,4 +1,6 @@
 // Reading with signs: the incidence of two cells, and the boundary of a chain with integer coefficients.
+#![tactic(auto)]
+
 ghost use Rattle.std.specs.Prelude.{◌≡◌, ◌&&◌, ◌≤◌, ◌<◌, length, get_or, pos, ◌+ℤ◌, nat_abs, leb};
 ghost use Rattle.std.specs.Int.{w64};
 ghost use Rattle.std.proofs.Common.{SFits};

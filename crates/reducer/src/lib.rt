@@ -1,5 +1,7 @@
 // The reducer: makes evidence for a hole count. It keeps the boundaries of finished rows, each at its largest cell, beside the number
 // of the row; taking boundaries anew for each addition would cost two orders of magnitude on the worst table. It asks no heap.
+#![tactic(auto)]
+
 ghost use Rattle.std.specs.Prelude.{◌≡◌, true, ◌≤◌, ◌<◌, length};
 ghost use Rattle.complex.specs.View.{view_of, Frame};
 ghost use Rattle.complex.specs.Cells.{cells};

@@ -1,4 +1,6 @@
 // What the program prints, as a function from bytes to bytes: the seven lines of a sketch, or one line with a refusal's number.
+#![tactic(auto)]
+
 ghost use Rattle.std.specs.Prelude.{◌≡◌, [], ◌∷◌, ℕ, ◌+◌, ◌≤◌, ◌<◌, length, get_or};
 ghost use Rattle.table.specs.Kind.{capacity, top};
 ghost use Rattle.table.specs.Table.{Valid};

@@ -1,5 +1,7 @@
 // Rows of evidence: whether it has the length for a table, where a row lies, the faces of a cell added into a set, and a row's boundary
 // mod 2. These are parts of reducer and checker, which show what each one asks; none is a public call.
+#![tactic(auto)]
+
 ghost use Rattle.std.specs.Prelude.{◌≡◌, true, ◌<◌, length};
 ghost use Rattle.homology.specs.Holes.{boundary};
 ghost use Rattle.complex.specs.View.{view_of, Frame};

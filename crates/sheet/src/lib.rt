@@ -1,6 +1,8 @@
 // The sheet test: whether a part is a sheet that a mesher can run on. One pass finds the largest dimension n; a second counts, for each
 // (n−1)-cell, at how many places it is named, leaves at the third, and marks every other cell that is named; the last looks for a cell
 // that is neither an n-cell nor named. In a valid table the cells over an (n−1)-cell are n-cells, so a place of one is a wing.
+#![tactic(auto)]
+
 ghost use Rattle.std.specs.Prelude.{◌≡◌, ◌+◌, ◌<◌};
 ghost use Rattle.table.specs.Kind.{used as used_of};
 ghost use Rattle.table.specs.Table.{cells_of, dim as dim_of, Valid};

@@ -1,5 +1,7 @@
 // The form of a sketch file in code, once for the crates that write, read and print one: its sizes, the number that stands at a place,
 // and where the parts of a record stand. The definitions are in specs/, the way there and back in proofs/.
+#![tactic(auto)]
+
 ghost use Rattle.std.specs.Prelude.{◌≡◌, ◌+◌, ◌*◌, ◌≤◌, ◌<◌, length};
 ghost use Rattle.table.specs.Kind.{top, dimensions, faces};
 ghost use Rattle.sketch.specs.Form.{two_at, four_at, entry_size, contents_size, offset_place, record_size, face_place, longest};

@@ -1,6 +1,8 @@
 // Standard input read to its end, and standard output written, for the programs: a read or a write that fails is told on standard error,
 // and is never taken for the end of the input or for an answer given. No contract can say which bytes the system hands over or takes;
 // what is proved is where they are put, and what is made of each answer of the system.
+#![tactic(auto)]
+
 ghost use Rattle.std.specs.Prelude.{◌≡◌, ◌≤◌, length};
 ghost use Rattle.stdio.specs.Read.{turn_of, Further, HasRead};
 

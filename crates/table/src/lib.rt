@@ -1,6 +1,8 @@
 // The table kind: its four numbers, and the only way into its words. A table is lent as a slice of
 // 16-bit words; a function that reads or writes a record asks that it lies inside, and none looks further. Those are parts for
 // the crates above, which show what each one asks; no public call is here.
+#![tactic(auto)]
+
 ghost use Rattle.std.specs.Prelude.{◌≡◌, ◌+◌, ◌*◌, ◌≤◌, ◌<◌, length, get_or, eqb};
 ghost use Rattle.counting.specs.Counting.{pick, how_many, listed};
 ghost use Rattle.table.specs.Kind.{capacity, top, dimensions, faces, width, free_mark, used};
@@ -175,10 +177,10 @@ fn move_words(part: &mut [u16], n: usize)
 
 // The numbers of the code are those of the definitions.
 fn same_numbers()
-    ensures* do_value { do ⌜ (← (⟦Table::CAPACITY⟧).entry) ≡ capacity ⌝ }
-    ensures* do_value_2 { do ⌜ (← (⟦Table::TOP⟧).entry) ≡ top ⌝ }
-    ensures* do_value_3 { do ⌜ (← (⟦Table::DIMENSIONS⟧).entry) ≡ dimensions ⌝ }
-    ensures* do_value_4 { do ⌜ (← (⟦Table::FACES⟧).entry) ≡ faces ⌝ }
-    ensures* do_value_5 { do ⌜ (← (⟦Table::WORDS⟧).entry) ≡ width ⌝ }
-    ensures* do_value_6 { do ⌜ (← (⟦Table::FREE⟧).entry) ≡ free_mark ⌝ }
+    ensures capacity_value { Table.CAPACITY ≡ capacity }
+    ensures top_value { Table.TOP ≡ top }
+    ensures dimensions_value { Table.DIMENSIONS ≡ dimensions }
+    ensures faces_value { Table.FACES ≡ faces }
+    ensures width_value { Table.WORDS ≡ width }
+    ensures free_mark_value { Table.FREE ≡ free_mark }
 {}

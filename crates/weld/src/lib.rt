@@ -1,5 +1,7 @@
 // Weld, the identification of two cells whose sides aren't joined yet: the classes of joined cells, level by level from the two cells
 // down, on a flat map of 512 numbers; then one pass over the records. No function calls itself.
+#![tactic(auto)]
+
 ghost use Rattle.std.specs.Prelude.{◌≡◌, ◌<◌, ◌≤◌, length, get_or};
 ghost use Rattle.table.specs.Kind.{capacity, top, used as used_of};
 ghost use Rattle.table.specs.Table.{cells_of, dim as dim_of, Live, Valid};

@@ -1,5 +1,7 @@
 // The sketch file's writer: the contents, then the bodies, into a lent target. Where each body starts is known from the counts, so one
 // pass over the cells fills them all. An inner function takes the place where it starts and answers the place after its last byte.
+#![tactic(auto)]
+
 ghost use Rattle.std.specs.Prelude.{◌≡◌, ◌+◌, ◌*◌, ◌≤◌, ◌<◌, length};
 ghost use Rattle.std.proofs.lemmas.List.Edits.{sets};
 ghost use Rattle.table.specs.Kind.{top, dimensions};
