@@ -15,6 +15,7 @@ use Rattle.calls.specs.declared.Refusal.{Refusal}
 use Rattle.calls.specs.declared.Verdict.TheVariants.{Refused}
 
 above : (n m : ℕ) (gs : List Ground) → RisesFrom n gs → Applies gs m → n < m
+above n m [] rise none = elim none [ ]
 above n m (g ∷ gs) rise (here e) = rise.0
 above n m (g ∷ gs) rise (later a) = omega (arith, rise.0, above (number_of g.refusal) m gs rise.1 a)
 

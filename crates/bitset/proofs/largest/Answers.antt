@@ -1,0 +1,14 @@
+-- `largest` meets its contract. The invariant: every word from w on is 0. The measure: w. Assumes nothing.
+use Prim.Native.Nat.{◌-◌}
+use native.Mathlib.Omega.{arith}
+use Rattle.bitset.proofs.LargestMember.{leading_is_largest, zeros_all}
+use Rattle.bitset.proofs.largest.Goals as goal
+
+pub returns-then-v-ne0 : goal.returns-then-v-ne0
+returns-then-v-ne0 c =
+    let l = c.loop-w in
+    let fits = c.type_inv.ws (l.w - 1) in
+    leading_is_largest c.args.ws.now (l.w - 1) (omega arith) (omega arith) fits.fits (λ k h. l.invariant.1 k (omega arith))
+
+pub returns : goal.returns
+returns c = zeros_all c.args.ws.now c.loop-w.w c.loop-w-test.false c.loop-w.invariant.1
