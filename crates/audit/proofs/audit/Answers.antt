@@ -1,0 +1,24 @@
+-- `audit::audit` meets its contract: the length decides the first ground, and what the search finds the second.
+-- Assumes nothing.
+use mathlib.Core.Path.{sym, ap, ◌∙◌}
+use Rattle.audit.specs.Audit.{is_sound}
+use Rattle.table.proofs.Sizes.{sized_is_sized}
+use Rattle.audit.proofs.Verdicts.{audit_accepts, audit_refuses_invalid}
+use Rattle.audit.proofs.audit.Goals as goal
+
+pub first_breach-found-requires : goal.first_breach-found-requires
+first_breach-found-requires c =
+    let t = c.args.t.now in
+    sized_is_sized t (sym c.fits.ensures ∙ c.if-not-fits.false)
+
+pub returns-in-Sound : goal.returns-in-Sound
+returns-in-Sound c =
+    audit_accepts c.args.t.now
+    (sym c.fits.ensures ∙ c.if-not-fits.false)
+    (ap is_sound (sym c.first_breach-found.ensures ∙ c.in-Sound.is))
+
+pub returns-in-Broken : goal.returns-in-Broken
+returns-in-Broken c =
+    audit_refuses_invalid c.args.t.now c.in-Broken.b
+    (sym c.fits.ensures ∙ c.if-not-fits.false)
+    (sym c.first_breach-found.ensures ∙ c.in-Broken.is)
