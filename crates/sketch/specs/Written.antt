@@ -1,6 +1,6 @@
 -- The file that a table is written as, and what the writer answers and leaves.
 -- A reader must believe these definitions; nothing here is proved.
-use Rattle.std.specs.Prelude.{List, [], ◌∷◌, ◌++◌, ℕ, ◌+◌, length, drop, ltb}
+use Rattle.std.specs.Prelude.{List, [], ◌∷◌, ◌++◌, ℕ, length, drop, ltb}
 use Rattle.counting.specs.Counting.{pick}
 use Rattle.table.specs.Kind.{used, dimensions}
 use Rattle.table.specs.Table.{cells_of, dim, face, is_cell, count_of}

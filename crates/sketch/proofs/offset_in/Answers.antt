@@ -3,23 +3,15 @@
 use mathlib.Core.Path.{◌≡◌, ap}
 use mathlib.Core.List.{List}
 use Prim.Native.Nat.{ℕ, ◌+◌, ◌*◌}
-use borrow.Author.Rules.{rules}
 use native.Mathlib.Nat.{add_assoc}
 use native.Mathlib.Omega.{arith}
 use lib.ListN.{get_or}
 use Rattle.sketch.specs.Form.{two_at, four_at}
-use Rattle.sketch.proofs.offset_in.Statement.{statement}
-use Rattle.sketch.proofs.offset_in.Tie as tie
+use Rattle.sketch.proofs.offset_in.Goals as goal
 
 halves : (f : List ℕ) (i a b : ℕ) → a ≡ two_at f i → b ≡ two_at f (i + 2) → a + b * 65536 ≡ four_at f i
 unfolding two_at four_at
 halves f i a b x y = omega (arith, ap (λ k. get_or f k 0) (add_assoc i 2 1))
 
-returns : tie.Need-returns
-returns c = halves _ _ _ _ c.before.two_at.ensures c.two-at2.ensures
-
-pub offset-in-spec : {M : Type 1} → statement M
-offset-in-spec =
-    tie.close
-    (tie.spec (λ c. search rules) (λ c. search rules) (λ c κs. search rules) (λ c. search rules) (λ c. search rules) (λ c κs. search rules)
-    (λ c. search rules) (λ c. search rules) (λ c. search rules) returns)
+pub returns : goal.returns
+returns c = halves _ _ _ _ c.two_at.ensures c.two_at-2.ensures
