@@ -9,6 +9,7 @@ use Rattle.cone.proofs.Refusals.{few_cells, words_fit, ends_inside, room_lacks, 
 use Rattle.cone.proofs.built.Goals as goal
 use Rattle.cone.proofs.built.Goals.{After-marks_end-end}
 
+-- what is known at the end of the marks
 is_apex : (m : After-marks_end-end) → m.next_free-first.result ≡ apex_of m.args.t.now
 is_apex m = first_free _ _ m.next_free-first.ensures.0
 
