@@ -1,0 +1,46 @@
+-- `finish_row` meets its contract. The invariant: whatever the rule gives from here, it gives from the start (`Going`).
+-- The measure: the height of the row's boundary. Assumes nothing.
+use borrow.Author.Rules.{rules}
+use mathlib.Core.Path.{subst, ◌∙◌}
+use Rattle.bitset.specs.Bits.{IsLargestIn, LargestIs}
+use Rattle.reducer.proofs.RowAdditions.{going_first, ends_empty, kept_room, ends_free, falls, goes_on}
+use Rattle.reducer.proofs.finish_row.Goals as goal
+
+pub loop-m-init : goal.loop-m-init
+loop-m-init c =
+    (search rules, search rules, search rules, search rules, going_first c.requires.frame.room c.requires.c_bound c.requires.w_value c.requires.begun)
+
+pub returns-in-Nothing : goal.returns-in-Nothing
+returns-in-Nothing c = ends_empty c.loop-m.invariant.4 (subst (LargestIs _) c.in-Nothing.is c.largest-largest.ensures)
+
+-- the largest cell's words lie among the boundaries
+pub keep_row-requires-clause-w_in_bounds : goal.keep_row-requires-clause-w_in_bounds
+keep_row-requires-clause-w_in_bounds c =
+    let h : IsLargestIn c.loop-m.b c.in-Cell.m = subst (LargestIs c.loop-m.b) c.in-Cell.is c.largest-largest.ensures in
+    kept_room c.loop-m.invariant.4 h
+
+pub returns-then-a : goal.returns-then-a
+returns-then-a c =
+    let h : IsLargestIn c.loop-m.b c.in-Cell.m = subst (LargestIs c.loop-m.b) c.in-Cell.is c.largest-largest.ensures in
+    ends_free c.loop-m.invariant.4 h c.if-a.true c.keep_row.ensures
+
+pub add_kept-requires-clause-w_in_bounds : goal.add_kept-requires-clause-w_in_bounds
+add_kept-requires-clause-w_in_bounds c =
+    let h : IsLargestIn c.loop-m.b c.in-Cell.m = subst (LargestIs c.loop-m.b) c.in-Cell.is c.largest-largest.ensures in
+    kept_room c.loop-m.invariant.4 h
+
+pub loop-m-smaller : goal.loop-m-smaller
+loop-m-smaller c =
+    let h : IsLargestIn c.loop-m.b c.in-Cell.m = subst (LargestIs c.loop-m.b) c.in-Cell.is c.largest-largest.ensures in
+    falls c.loop-m.invariant.4 h c.if-a.false c.add_kept.ensures
+
+pub loop-m-preserved : goal.loop-m-preserved
+loop-m-preserved c =
+    let h : IsLargestIn c.loop-m.b c.in-Cell.m = subst (LargestIs c.loop-m.b) c.in-Cell.is c.largest-largest.ensures in
+    let i = c.loop-m.invariant in (
+      c.add_kept.auto.into ∙ i.0,
+      c.add_row.auto.ws ∙ i.1,
+      i.2,
+      i.3,
+      goes_on i.4 h c.if-a.false c.add_kept.ensures c.add_row.ensures,
+    )
