@@ -88,7 +88,7 @@ fn lengths_fit(t: &[u16], chain: &[i64], res: &[i64]) -> bool
 fn clear(res: &mut [i64])
     ensures { res.new ≡ integers (length res.old) (λ u. pos 0) }
 {
-    for k in 0..result.len() {
+    for k in 0..res.len() {
         res[k] = 0;
     }
 }
@@ -164,7 +164,7 @@ fn judge(t: &[u16], chain: &[i64], p: u16, res: &[i64]) -> Verdict
     }
 }
 
-// The boundary of the p-chain `chain`, into `result`. Refused with 1, 2, 12, 10, 11, in that order; then no word changes.
+// The boundary of the p-chain `chain`, into `res`. Refused with 1, 2, 12, 10, 11, in that order; then no word changes.
 pub fn boundary(t: &[u16], chain: &[i64], p: u16, res: &mut [i64]) -> Verdict
     ensures { Ends (boundary_verdict t.now chain.now p res.old) (boundary_leaves t.now chain.now p res.old) result res.new }
 {
