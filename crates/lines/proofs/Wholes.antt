@@ -5,7 +5,7 @@ use mathlib.Core.Bool.{Bool, true, false, ◌&&◌}
 use mathlib.Core.List.{List, [], ◌∷◌, ◌++◌, append_assoc, append-nil}
 use mathlib.Core.Logic.{⊎_elim}
 use Rattle.counting.proofs.Cases.{same_or_not}
-use Prim.Native.Nat.{ℕ, ◌+◌, ◌≤◌, ◌<◌}
+use Prim.Native.Nat.{ℕ, ◌≤◌, ◌<◌}
 use native.Mathlib.Omega.{arith}
 use lib.ListN.{length, drop, length-drop, drop_of_length-le}
 use Rattle.partlist.specs.Text.{numbers_end, line_text, text_of, AllLines, IsList, NoList}
