@@ -1,70 +1,39 @@
--- The system's answer by its sign: below 0 a failure, 0 the end, above 0 so many bytes. What carries it: the cases of an integer; a machine
--- word that holds an integer gives it back. Assumes nothing.
-use mathlib.Core.Path.{◌≡◌, refl, sym, ap, subst, ◌∙◌}
-use mathlib.Core.Bool.{true, false}
-use Prim.Native.Nat.{ℕ, zero, suc, ◌≤◌, ◌<◌}
-use native.Mathlib.Omega.{arith}
-use borrow.Author.Tests.{ltb-true}
-use lib.IntN.{ℤ, pos, negsuc, nat_abs}
-use lib.Dec.{T}
-use lib.Signed.{lt_z, non_neg}
-use mir.Syntax.{w64}
-use mir.Val.{SFits, Fits, to_z, of_z}
-use mir.Facts.{to_z-of_z, Fits-nat_abs}
-use Rattle.libc.specs.Io.{Moved}
+-- A reader's answer by its kind: an error is a failure, 0 the end, above 0 so many bytes. What carries it: the cases of the answer.
+-- Assumes nothing.
+use Rattle.std.proofs.Common.{◌≡◌, refl, sym, ap, ◌∙◌, ℕ, zero, suc, ◌≤◌, ◌<◌, arith, Result, Ok, Err}
 use Rattle.stdio.specs.declared.Read.TheVariants.{Bytes, Failed}
 use Rattle.stdio.specs.declared.Turn.TheVariants.{More, Over}
 use Rattle.stdio.specs.Read.{turn_of}
 
--- an integer as the machine reads it back
-abbrev pub back : ℤ → ℤ
-back z = to_z w64 (of_z w64 z)
-
--- By the sign of the answer,
-below_zero : (done : ℕ) (z : ℤ) → lt_z z (pos 0) ≡ true → Over Failed ≡ turn_of done z
-unfolding turn_of
-below_zero done (pos n) e = let l : n < 0 = ltb-true n 0 e in absurd (omega arith)
-below_zero done (negsuc n) e = refl
-
-not_below : (z : ℤ) → lt_z z (pos 0) ≡ false → T (non_neg z)
-not_below (pos n) e = tt
-not_below (negsuc n) e = let z : ◌≡◌ {A = ℕ} 0 1 = cc in absurd (omega arith)
-
-above_zero : (done : ℕ) (z : ℤ) → T (non_neg z) → (of_z w64 z ≡ 0 → ⊥) → More (nat_abs z) ≡ turn_of done z
-unfolding turn_of
-above_zero done (pos zero) t e = absurd (e refl)
-above_zero done (pos (suc n)) t e = refl
-above_zero done (negsuc n) t e = absurd t
-
--- and the same as the code tests it.
-module _ (done : ℕ) (z : ℤ) (f : SFits w64 z) where
-  pub told_failed : lt_z (back z) (pos 0) ≡ true → Over Failed ≡ turn_of done z
-  told_failed e = below_zero done z (subst (λ (y : ℤ). lt_z y (pos 0) ≡ true) (to_z-of_z f) e)
-
-  pub told_end : of_z w64 z ≡ 0 → Over (Bytes done) ≡ turn_of done z
+-- By the answer,
+module _ {E : Type 0} (done : ℕ) (r : Result ℕ E) where
+  pub told_failed : (e : E) → r ≡ Err e → Over Failed ≡ turn_of done r
   unfolding turn_of
-  told_end e = ap (turn_of done) (sym (ap (to_z w64) e) ∙ to_z-of_z f)
+  told_failed e q = ap (turn_of done) (sym q)
 
-  pub told_more : lt_z (back z) (pos 0) ≡ false → (of_z w64 z ≡ 0 → ⊥) → More (nat_abs (back z)) ≡ turn_of done z
-  told_more e n =
-      ap (λ (y : ℤ). More (nat_abs y)) (to_z-of_z f)
-      ∙ above_zero done z (not_below z (subst (λ (y : ℤ). lt_z y (pos 0) ≡ false) (to_z-of_z f) e)) n
+  pub told_end : (n : ℕ) → r ≡ Ok n → n ≡ 0 → Over (Bytes done) ≡ turn_of done r
+  unfolding turn_of
+  told_end n q z = ap (λ (k : ℕ). turn_of {E = E} done (Ok k)) (sym z) ∙ ap (turn_of done) (sym q)
 
-pub told_positive : (z : ℤ) → lt_z (back z) (pos 0) ≡ false → T (non_neg (back z))
-told_positive z e = not_below (back z) e
-
-pub told_size : (z : ℤ) → SFits w64 z → Fits w64 (nat_abs (back z))
-told_size z f = subst (λ (y : ℤ). Fits w64 (nat_abs y)) (sym (to_z-of_z f)) (Fits-nat_abs tt f)
-
--- What a call that may move m bytes has moved, and how many there are at the end.
-pub more_inside : (done m : ℕ) (z : ℤ) (n : ℕ) → Moved m z → More n ≡ turn_of done z → (0 < n) × (n ≤ m)
+above_zero : (E : Type 0) (done n : ℕ) → (n ≡ 0 → ⊥) → More n ≡ turn_of {E = E} done (Ok n)
 unfolding turn_of
-more_inside done m (pos zero) n h e = let z : ◌≡◌ {A = ℕ} 0 1 = cc in absurd (omega arith)
-more_inside done m (pos (suc k)) n h e = let same : n ≡ suc k = cc in (omega arith, omega arith)
-more_inside done m (negsuc k) n h e = let z : ◌≡◌ {A = ℕ} 0 1 = cc in absurd (omega arith)
+above_zero E done zero e = absurd (e refl)
+above_zero E done (suc n) e = refl
 
-pub end_counts : (done : ℕ) (z : ℤ) (n : ℕ) → Over (Bytes n) ≡ turn_of done z → n ≡ done
+module _ {E : Type 0} (done : ℕ) (r : Result ℕ E) where
+  pub told_more : (n : ℕ) → r ≡ Ok n → (n ≡ 0 → ⊥) → More n ≡ turn_of done r
+  told_more n q e = above_zero E done n e ∙ ap (turn_of done) (sym q)
+
+-- What a read that may give m bytes has given, and how many there are at the end.
+pub more_inside : {E : Type 0} (done m : ℕ) (r : Result ℕ E) (n : ℕ) → ((k : ℕ) → r ≡ Ok k → k ≤ m) → More n ≡ turn_of done r
+    → (0 < n) × (n ≤ m)
 unfolding turn_of
-end_counts done (pos zero) n e = cc
-end_counts done (pos (suc k)) n e = let z : ◌≡◌ {A = ℕ} 0 1 = cc in absurd (omega arith)
-end_counts done (negsuc k) n e = let z : ◌≡◌ {A = ℕ} 0 1 = cc in absurd (omega arith)
+more_inside done m (Ok zero) n h e = let z : ◌≡◌ {A = ℕ} 0 1 = cc in absurd (omega arith)
+more_inside done m (Ok (suc k)) n h e = let same : n ≡ suc k = cc in let l : suc k ≤ m = h (suc k) refl in (omega arith, omega arith)
+more_inside done m (Err e) n h q = let z : ◌≡◌ {A = ℕ} 0 1 = cc in absurd (omega arith)
+
+pub end_counts : {E : Type 0} (done : ℕ) (r : Result ℕ E) (n : ℕ) → Over (Bytes n) ≡ turn_of done r → n ≡ done
+unfolding turn_of
+end_counts done (Ok zero) n e = cc
+end_counts done (Ok (suc k)) n e = let z : ◌≡◌ {A = ℕ} 0 1 = cc in absurd (omega arith)
+end_counts done (Err _) n e = let z : ◌≡◌ {A = ℕ} 0 1 = cc in absurd (omega arith)

@@ -1,40 +1,35 @@
 -- The bytes that were read, turn by turn: a read behind the first `done` bytes stays inside the buffer, and so does the whole.
 -- What carries it: a part of a list that is put back leaves what lies before it. Assumes nothing.
-use mathlib.Core.Path.{◌≡◌, sym, ap, ◌∙◌}
-use mathlib.Core.List.{List}
-use Prim.Native.Nat.{ℕ, ◌-◌, ◌≤◌}
-use native.Mathlib.Nat.{le_refl}
-use native.Mathlib.Omega.{arith}
-use lib.IntN.{ℤ}
-use lib.ListN.{length, take}
-use lib.Seq.{length-take-le}
+use Rattle.std.proofs.Common.{◌≡◌, sym, ap, ◌∙◌, List, ℕ, ◌-◌, ◌≤◌, le_refl, arith, length, take, length-take-le, subst, Result, Ok}
+use Rattle.std.specs.Io.{ReadsAtMost}
 use borrow.Rule.Slice.PartMut.{mid_of, put_mid, mid_len, take_put}
-use mir.Syntax.{w64}
-use mir.Val.{SFits}
-use mir.Facts.{to_z-of_z}
-use Rattle.libc.specs.Io.{Moved}
 use Rattle.stdio.specs.declared.Read.{Read}
 use Rattle.stdio.specs.declared.Read.TheVariants.{Bytes}
 use Rattle.stdio.specs.declared.Turn.{Turn}
 use Rattle.stdio.specs.declared.Turn.TheVariants.{Over}
 use Rattle.stdio.specs.Read.{turn_of, Further, HasRead}
-use Rattle.stdio.proofs.Meanings.{back, more_inside, end_counts}
+use Rattle.stdio.proofs.Meanings.{more_inside, end_counts}
 
--- One read into the part of the buffer behind the first `done` bytes, which answers z and leaves ys there.
-pub read_further : (done : ℕ) (xs ys : List ℕ) (z : ℤ) (r : Turn) → done ≤ length xs
+-- the bytes of an answer lie inside what was read into
+most : {E : Type 0} (r : Result ℕ E) (ys : List ℕ) (n : ℕ) → ReadsAtMost r ys → n ≡ length ys → (k : ℕ) → r ≡ Ok k → k ≤ n
+most {E = E} r ys n b e k q =
+    let h : ReadsAtMost {E = E} (Ok k) ys = subst (λ (z : Result ℕ E). ReadsAtMost z ys) q b in omega (arith, h.0, e)
+
+-- One read into the part of the buffer behind the first `done` bytes, which answers got and leaves ys there.
+pub read_further : {E : Type 0} (done : ℕ) (xs ys : List ℕ) (got : Result ℕ E) (r : Turn) → done ≤ length xs
+    → length ys ≡ length (mid_of done (length xs - done) xs)
     → length (put_mid done (length xs - done) xs ys) ≡ length xs
-    → Moved (length (mid_of done (length xs - done) xs)) z → SFits w64 z → r ≡ turn_of done (back z)
+    → ReadsAtMost got ys → r ≡ turn_of done got
     → Further done r xs (put_mid done (length xs - done) xs ys)
-read_further done xs ys z r l same m f e =
-    let told : r ≡ turn_of done z = e ∙ ap (turn_of done) (to_z-of_z f) in
+read_further done xs ys got r l whole same b told =
+    let room : length (mid_of done (length xs - done) xs) ≡ length xs - done = mid_len done (length xs) xs (le_refl (length xs)) in
     record {
       kept = take_put done (length xs - done) xs ys l;
       sized = same;
       added = λ n q.
-          let i = more_inside done (length (mid_of done (length xs - done) xs)) z n m (sym q ∙ told) in
-          let room : length (mid_of done (length xs - done) xs) ≡ length xs - done = mid_len done (length xs) xs (le_refl (length xs)) in
-          (i.0, omega (arith, i.1, room, l));
-      ended = λ n q. end_counts done z n (sym q ∙ told);
+          let i = more_inside done (length xs - done) got n (most got ys (length xs - done) b (sym (whole ∙ room))) (sym q ∙ told) in
+          (i.0, omega (arith, i.1, l));
+      ended = λ n q. end_counts done got n (sym q ∙ told);
     }
 
 -- What all reads together leave: the buffer is full, or the last read has ended them.

@@ -1,16 +1,16 @@
--- What the system's answer to one read means, and what one read and all of them leave.
+-- What a reader's answer to one read means, and what one read and all of them leave.
 -- A reader must believe these definitions; nothing here is proved.
-use Rattle.std.specs.Prelude.{◌≡◌, List, ℕ, zero, suc, ◌+◌, ◌≤◌, ◌<◌, length, take, ℤ, pos, negsuc}
+use Rattle.std.specs.Prelude.{◌≡◌, List, ℕ, zero, suc, ◌+◌, ◌≤◌, ◌<◌, length, take, Result, Ok, Err}
 use Rattle.stdio.specs.declared.Read.{Read}
 use Rattle.stdio.specs.declared.Read.TheVariants.{Bytes, Failed}
 use Rattle.stdio.specs.declared.Turn.{Turn}
 use Rattle.stdio.specs.declared.Turn.TheVariants.{More, Over}
 
--- where `done` bytes are there: a number of bytes more, of which 0 is the end of the input; or below 0, a failure
-unfoldable pub turn_of : ℕ → ℤ → Turn
-turn_of done (pos zero) = Over (Bytes done)
-turn_of done (pos (suc n)) = More (suc n)
-turn_of done (negsuc _) = Over Failed
+-- where `done` bytes are there: a number of bytes more, of which 0 is the end of the input; or an error, a failure
+unfoldable pub turn_of : {E : Type 0} → ℕ → Result ℕ E → Turn
+turn_of done (Ok zero) = Over (Bytes done)
+turn_of done (Ok (suc n)) = More (suc n)
+turn_of done (Err _) = Over Failed
 
 -- a read behind the first `done` bytes keeps them; what it adds, at least one byte, lies inside the buffer; and if all are there, these are
 pub record Further (done : ℕ) (r : Turn) (before after : List ℕ) : Type 0 where

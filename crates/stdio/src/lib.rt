@@ -3,10 +3,15 @@
 // what is proved is where they are put, and what is made of each answer of the system.
 #![tactic(auto)]
 
-ghost use Rattle.std.specs.Prelude.{◌≡◌, ◌≤◌, length};
+ghost use Rattle.std.specs.Prelude.{◌≡◌, ◌≤◌, length, IsTrue};
+ghost use Rattle.std.specs.Io.KnownBytes.{Appends};
 ghost use Rattle.stdio.specs.Read.{turn_of, Further, HasRead};
 
-use libc::{STDERR_FILENO, STDIN_FILENO, STDOUT_FILENO};
+use std::fs::File;
+use std::io::{ErrorKind, Write};
+use std::{fs, io};
+
+const OUTPUT: &str = "/dev/stdout";
 
 // What came of reading: so many bytes, up to the end of the input or of the buffer, or a failure.
 #[derive(Drop)]
@@ -22,38 +27,35 @@ enum Turn {
     Over(Read),
 }
 
-// What the system's answer means, where `done` bytes are there. -1 is every failure, also that of a pipe which does not wait and has
+// What a reader's answer means, where `done` bytes are there. An error is every failure, also that of a pipe which does not wait and has
 // nothing yet: whether more would come is not known then, so it is not the end.
-fn meaning(got: isize, done: usize) -> Turn
+fn meaning(got: io::Result<usize>, done: usize) -> Turn
     ensures { result ≡ turn_of done got }
 {
-    if got < 0 {
-        return Turn::Over(Read::Failed);
+    match got {
+        Err(_) => Turn::Over(Read::Failed),
+        Ok(0) => Turn::Over(Read::Bytes(done)),
+        Ok(more) => Turn::More(more),
     }
-    if got == 0 {
-        return Turn::Over(Read::Bytes(done));
-    }
-    let more = got as usize;
-    Turn::More(more)
 }
 
 // Reads once, behind the bytes that are there.
-fn read_on(buf: &mut [u8], done: usize) -> Turn
+fn read_on<R: io::Read>(from: &mut R, buf: &mut [u8], done: usize) -> Turn
     requires { done ≤ length buf.old }
     ensures { Further done result buf.old buf.new }
 {
-    let got = libc::read(STDIN_FILENO, &mut buf[done..]);
+    let got = from.read(&mut buf[done..]);
     meaning(got, done)
 }
 
-// Reads standard input until it ends, the buffer is full, or a read fails. A pipe may hand the bytes over in pieces. The bytes lie at the
-// start of the buffer, and of those behind them nothing is said.
-pub fn read_all(buf: &mut [u8]) -> Read
+// Reads from a reader, as standard input, until it ends, the buffer is full, or a read fails. A pipe may hand the bytes over in pieces.
+// The bytes lie at the start of the buffer, and of those behind them nothing is said.
+pub fn read_all<R: io::Read>(from: &mut R, buf: &mut [u8]) -> Read
     ensures { HasRead result buf.old buf.new }
 {
     let mut done = 0;
     while done < buf.len() {
-        let next = read_on(buf, done);
+        let next = read_on(from, buf, done);
         match next {
             Turn::More(n) => {
                 done += n;
@@ -66,19 +68,51 @@ pub fn read_all(buf: &mut [u8]) -> Read
     Read::Bytes(done)
 }
 
-// Writes a line to standard error. Where that fails too, there is nobody left to tell.
-pub fn tell(line: &[u8]) {
-    io::write_all(STDERR_FILENO, line);
+// Writes all of the bytes, or stops at the first write that takes nothing or fails; a part of them may have been written then.
+fn is_written<W: Write>(to: &mut W, bytes: &[u8]) -> bool
+    ensures { IsTrue result → Appends (W.contents to.old) (W.contents to.new) bytes.now }
+{
+    let mut put = 0;
+    while put < bytes.len() {
+        match to.write(&bytes[put..]) {
+            Ok(0) | Err(_) => return false,
+            Ok(n) => put += n,
+        }
+    }
+    true
 }
 
-// Writes all that the program answers to standard output and closes it, since a disk may say only then that it is full. Where either
-// fails, the line goes to standard error; a part of the text may have been written.
-pub fn answer_or_tell(text: &[u8], line: &[u8]) {
-    if !io::write_all(STDOUT_FILENO, text) {
-        tell(line);
-        return;
+// Writes a line to standard error. Where that fails too, there is nobody left to tell.
+pub fn tell(rt: HostRuntime, line: &[u8]) {
+    is_written(&mut rt.stderr(), line);
+}
+
+// Writes all that the program answers to standard output, and asks the disk for it, since it may say only then that it is full. Where
+// either fails, the line goes to standard error; a part of the text may have been written.
+pub fn answer_or_tell(rt: HostRuntime, text: &[u8], line: &[u8]) {
+    if !is_written(&mut rt.stdout(), text) || !is_on_disk(rt) {
+        tell(rt, line);
     }
-    if libc::close(STDOUT_FILENO) < 0 {
-        tell(line);
+}
+
+// Whether the disk has what was written to standard output. Only a file can say no: a pipe or a terminal has no disk to be asked.
+fn is_on_disk(rt: HostRuntime) -> bool {
+    match synced(rt) {
+        Ok(()) => true,
+        Err(error) => error.kind() == ErrorKind::InvalidInput,
     }
+}
+
+// Standard output has no call of its own for this, so its file is opened by that name.
+fn synced(rt: HostRuntime) -> io::Result<()> {
+    let Ok(about) = fs::metadata(&rt, OUTPUT) else {
+        return Ok(());
+    };
+    if !about.is_file() {
+        return Ok(());
+    }
+    let Ok(file) = File::open(&rt, OUTPUT) else {
+        return Ok(());
+    };
+    file.sync_all()
 }
