@@ -15,6 +15,8 @@ DESTDIR =
 export PREFIX LIBDIR DESTDIR
 
 VERSION := $(shell sed -n 's/^.define BT_VERSION "\(.*\)"$$/\1/p' include/bumbleturf.h)
+# What `rt` makes lies in the crates' own out/, and `rt ci` takes it away; what is meant to stay is copied out of there.
+MADE = crates/kernel/out/libkernel.a
 ARCHIVE = target/staticlib/libkernel.a
 PROGRAMS = holes parts
 BINARIES = $(PROGRAMS:%=target/bin/%)
@@ -24,7 +26,7 @@ SHARED = target/shared/$(SONAME)
 DIST = bumbleturf-$(VERSION)-x86_64-linux
 
 .PHONY: all library program shared dist test bench install uninstall clean
-# Two provers in one target/ spoil each other's files.
+# A second prover only waits for the first, in the crates that both stand on.
 .NOTPARALLEL:
 # Each recipe is one script that stops at the first failure.
 .ONESHELL:
@@ -83,16 +85,22 @@ all: library program shared
 
 library:
 	@$(call rt_or_without,$(ARCHIVE))
-	rm -rf $(ARCHIVE) target/shared
-	rt staticlib kernel || { rm -f $(ARCHIVE); exit 1; }
-	[ -f $(ARCHIVE) ] || { echo 'make $@: rt has left no archive' >&2; exit 1; }
+	rm -rf $(ARCHIVE) $(MADE) target/shared
+	( cd crates/kernel && rt lib )
+	[ -f $(MADE) ] || { echo 'make $@: rt has left no archive' >&2; exit 1; }
+	mkdir -p $(dir $(ARCHIVE))
+	install -m 644 $(MADE) $(ARCHIVE)
 
-# A program that is not there although its proof is: rt links it only with the proof.
+# `rt run` proves, links and then runs the program: here on no input, and what it prints of that is for nobody.
 program:
 	@$(call rt_or_without,$(BINARIES))
-	for name in $(PROGRAMS); do [ -f "target/bin/$$name" ] || rm -f "target/stamp/$$name"; done
-	rt check $(PROGRAMS) || { rm -f $(BINARIES); exit 1; }
-	for file in $(BINARIES); do [ -f "$$file" ] || { echo "make $@: rt has left no $$file" >&2; exit 1; }; done
+	rm -f $(BINARIES)
+	for name in $(PROGRAMS); do ( cd "crates/$$name" && rt run </dev/null >/dev/null ); done
+	for name in $(PROGRAMS); do
+		[ -f "crates/$$name/out/$$name" ] || { echo "make $@: rt has left no program $$name" >&2; exit 1; }
+	done
+	mkdir -p target/bin
+	for name in $(PROGRAMS); do install -m 755 "crates/$$name/out/$$name" "target/bin/$$name"; done
 
 # No start files and no build number: the bytes follow from the archive and the linker.
 shared: library
@@ -100,17 +108,22 @@ shared: library
 	$(CC) -shared -nostartfiles -Wl,--whole-archive $(ARCHIVE) -Wl,--no-whole-archive -Wl,-soname,$(SONAME) -Wl,--build-id=none \
 		-Wl,-z,defs -Wl,-z,noexecstack -Wl,-s -o $(SHARED)
 
+# The folder that goes into the tar file is made outside the checkout: there is a link in it, and `rt ci` refuses a checkout with one.
 dist: all
 	@$(all_built)
 	[ "$$(rt version)" = "$$(cat kit.txt)" ] || { echo 'make $@: rt is not of the version that kit.txt names' >&2; exit 1; }
 	rm -rf target/dist
+	mkdir -p target/dist
+	place=$$(mktemp -d)
+	trap 'rm -rf "$$place"' EXIT
 	prefix='$${pcfiledir}/../..' libdir='$${prefix}/lib'
-	to=target/dist/$(DIST)
+	to=$$place/$(DIST)
 	$(call copied,"$$to/lib","$$to/include","$$to/bin")
 	install -m 644 kit.txt "$$to/"
 	( cd "$$to" && find . -type f | LC_ALL=C sort | xargs sha256sum >../SHA256SUMS && mv ../SHA256SUMS . )
-	tar --sort=name --format=ustar --mtime=@0 --owner=0 --group=0 --numeric-owner --mode=u=rwX,go=rX -C target/dist -cf "$$to.tar" $(DIST)
-	echo "$$to.tar"
+	tar --sort=name --format=ustar --mtime=@0 --owner=0 --group=0 --numeric-owner --mode=u=rwX,go=rX -C "$$place" -cf "$$to.tar" $(DIST)
+	install -m 644 "$$to.tar" target/dist/
+	echo target/dist/$(DIST).tar
 
 test:
 	@$(call rt_or_without,)
@@ -141,4 +154,4 @@ uninstall:
 	for name in $(PROGRAMS); do rm -f "$$DESTDIR$$PREFIX/bin/$$name"; done
 
 clean:
-	rm -rf target rust/target second/target
+	rm -rf target rust/target second/target crates/*/out

@@ -14,22 +14,26 @@ NUMBERS = re.compile(r"(?<![\w.])(512|65535|44|8236|8237)(?!\w)")
 # (what C sees, in `kernel`, has the header's numbers). 7 and 8 as a length or a bound: an array's, a loop's, a product's. (A literal in an arm of a match by dimension is none of these.)
 BOUNDS = re.compile(r"; [78]\]|< [78]\b|\* [78]\b|/ [78]\b|\.\.=?[78]\b|== [78]\b")
 WORD = re.compile(r"[^\s(){},;.`]+")
+# A function's own proof, in a folder of its name: it cites laws and is none. (A file of laws may have one of these names too, right in proofs/.)
+OWN_PROOF = re.compile(r"/proofs/.+/(?:Answers|Invariants|Proof)\.antt$")
+CLAUSE = re.compile(r"\s*(?:pub )?(?:ghost|requires|ensures|invariant)\b")
 
 
 def lone_laws():
     """Public laws of proofs/ that no promise cites and that no other file names: a law that its own file uses is private to it, and
-    one that nothing uses goes. (The fields of a record are no laws;
-    and what a public ruleset lists goes out with it.)"""
+    one that nothing uses goes, or docs/PORT.md lists it. (The fields of a record are no laws;
+    and what a public ruleset lists goes out with it.) For each its file, its name and what is wrong."""
     texts = {}
     for path in glob.glob("crates/**/*.antt", recursive=True) + glob.glob("crates/**/*.rt", recursive=True):
-        texts[path] = open(path, encoding="utf-8").read().split("\n")
+        if not re.match(r"crates/[^/]+/out/", path):
+            texts[path] = open(path, encoding="utf-8").read().split("\n")
     named = {}
     for path, lines in texts.items():
         for line in lines:
             for word in set(WORD.findall(line)):
                 named.setdefault(word, []).append((path, line))
     promised = set(re.findall(r"`([^`:]+):([^`]+)`", open("docs/PROMISES.md", encoding="utf-8").read()))
-    for path in sorted(p for p in texts if "/proofs/" in p and p.endswith(".antt") and not p.endswith("/Proof.antt")):
+    for path in sorted(p for p in texts if "/proofs/" in p and p.endswith(".antt") and not OWN_PROOF.search(p)):
         fields = None
         for line in texts[path]:
             indent = len(line) - len(line.lstrip())
@@ -48,9 +52,19 @@ def lone_laws():
             if any(not own.match(other) and re.match(r"\s*pub ", other) for at, other in named[name]):
                 continue
             if any(not own.match(other) for at, other in named[name]):
-                yield "%s: %s is public, and only its own file names it" % (path, name)
+                yield path, name, "%s: %s is public, and only its own file names it" % (path, name)
             else:
-                yield "%s: nothing cites %s" % (path, name)
+                yield path, name, "%s: nothing cites %s" % (path, name)
+
+
+def laws_not_kept():
+    """Lone laws but for those that docs/PORT.md lists as kept, and what it lists that is no lone law."""
+    page = open("docs/PORT.md", encoding="utf-8").read() if os.path.exists("docs/PORT.md") else ""
+    part = page.split("\n## Laws that nothing cites\n")[1].split("\n## ")[0] if "\n## Laws that nothing cites\n" in page else ""
+    kept = set(re.findall(r"`(crates/[^`:]+):([^`]+)`", part))
+    lone = {(path, name): line for path, name, line in lone_laws()}
+    yield from (line for law, line in lone.items() if law not in kept)
+    yield from ("docs/PORT.md: %s:%s is listed as cited by nothing, and is no such law" % law for law in sorted(kept - set(lone)))
 
 
 def edit_names():
@@ -61,16 +75,21 @@ def edit_names():
 
 def bare_numbers():
     for path in sorted(glob.glob("crates/*/src/**/*.rt", recursive=True)):
+        open_braces = 0
         for at, line in enumerate(open(path, encoding="utf-8"), 1):
             code = line.split("//")[0]
-            if "⌜" in code or re.match(r"\s*(pub )?const ", code) or path == "crates/kernel/src/lib.rt":
+            # a clause speaks of definitions, up to the brace that closes it
+            if open_braces or CLAUSE.match(code):
+                open_braces += code.count("{") - code.count("}")
+                continue
+            if re.match(r"\s*(pub )?const ", code) or path == "crates/kernel/src/lib.rt":
                 continue
             if NUMBERS.search(code) or BOUNDS.search(code):
                 yield "%s:%d: a number without its name: %s" % (path, at, line.strip())
 
 
 def crate_map():
-    crates = re.findall(r"^([a-z0-9_]+):", open("crates.txt", encoding="utf-8").read(), re.M)
+    crates = re.findall(r"^([a-z0-9_]+)(?: [^:#\n]*)?:", open("crates.txt", encoding="utf-8").read(), re.M)
     part = open("README.md", encoding="utf-8").read().split("\n## The crates\n")[-1].split("\n## ")[0]
     rows = re.findall(r"^\| `([a-z0-9_]+)` \|", part, re.M)
     for name in sorted(set(crates) | set(rows)):
@@ -80,7 +99,7 @@ def crate_map():
 
 def main():
     os.chdir(TOP)
-    wrong = list(lone_laws()) + list(edit_names()) + list(bare_numbers()) + list(crate_map())
+    wrong = list(laws_not_kept()) + list(edit_names()) + list(bare_numbers()) + list(crate_map())
     for line in wrong:
         print("house: " + line)
     print("house: %d differences" % len(wrong))

@@ -5,7 +5,7 @@
 set -eu
 cd "$(dirname "$0")/.."
 . tests/needs.bash
-needs link cc c++ make cargo pkg-config nm awk
+needs link cc c++ make cargo pkg-config nm awk comm
 archive=target/staticlib/libkernel.a
 built "$archive" library
 built target/bin/holes program
@@ -42,6 +42,12 @@ if LC_ALL=C grep -n '[^ -~]' include/bumbleturf.h; then printf 'link: the header
 sed -n 's/^uint32_t \(bt_[a-z_]*\)(.*/\1/p' include/bumbleturf.h | LC_ALL=C sort >"$place/declared"
 sed -n 's/^    pub fn \(bt_[a-z_]*\)(.*/\1/p' rust/src/raw.rs | LC_ALL=C sort | diff "$place/declared" -
 nm "$archive" | awk '$2 == "T" { print $3 }' | LC_ALL=C sort | diff "$place/declared" -
+# What it needs of a C library is what README.md says.
+nm -u "$archive" | awk '$1 == "U" { print $2 }' | LC_ALL=C sort -u >"$place/needed"
+if printf '%s\n' memcpy memmove memset | LC_ALL=C comm -13 - "$place/needed" | grep .; then
+    printf 'link: the archive needs more than README.md says\n'
+    exit 1
+fi
 # A mesher's plug-in is a shared library; the archive must be fit for one.
 cc -shared -fPIC -Iinclude examples/c/part.c "$archive" -o "$place/part.so"
 

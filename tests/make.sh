@@ -17,20 +17,24 @@ copy_of_checkout "$copy"
 mkdir "$place/bin" "$place/proved"
 cp "$archive" target/bin/* "$place/proved/"
 
-# rt as make calls it. FAIL names the words that are to fail: before anything is written, or late, with the archive there.
+# rt as make calls it, in a crate's folder. FAIL names the words that are to fail: before anything is written, or late, with the archive
+# there; with a crate's name after it, in that crate alone.
 cat >"$place/bin/rt" <<'RT'
 #!/bin/sh
 here=$(cd "$(dirname "$0")/.." && pwd)
 [ "$1" = version ] && exec cat kit.txt
-echo "begins $*" >>"$here/log"
+crate=$(basename "$PWD")
+fails() { [ "${FAIL:-}" = "$1" ] || [ "${FAIL:-}" = "$1 $crate" ]; }
+echo "begins $* in $crate" >>"$here/log"
 sleep 0.2
-[ "${FAIL:-}" != "$1" ] || exit 1
+! fails "$1" || exit 1
+mkdir -p out
 case $1 in
-staticlib) mkdir -p target/staticlib && cp "$here/proved/libkernel.a" target/staticlib/ ;;
-check) shift && for name in "$@"; do mkdir -p target/bin && cp "$here/proved/$name" target/bin/ || exit 1; done && set check ;;
+lib) cp "$here/proved/lib$crate.a" out/ || exit 1 ;;
+run) cp "$here/proved/$crate" out/ && "out/$crate" || exit 1 ;;
 esac
-echo "ends $*" >>"$here/log"
-[ "${FAIL:-}" != "late-$1" ]
+echo "ends $* in $crate" >>"$here/log"
+! fails "late-$1"
 RT
 chmod +x "$place/bin/rt"
 export PATH="$place/bin:$PATH"
@@ -95,22 +99,22 @@ PKG_CONFIG_PATH="$place/lib64/pkgconfig" pkg-config --libs bumbleturf | grep -q 
 printf 'make: LIBDIR: ok\n'
 
 # A failure is one, whichever job it is, and takes away what was made before.
-for when in staticlib late-staticlib; do
+for when in lib late-lib; do
     makes
     FAIL=$when refuses '' library
     [ ! -e "$copy/$archive" ] || fail "after a failed library ($when) there is an archive"
     refuses 'is not built' install DESTDIR="$place/none"
 done
-for when in check late-check; do
+for when in run late-run 'run parts' 'late-run holes'; do
     makes
     FAIL=$when refuses '' program
     [ ! -e "$copy/target/bin/holes" ] && [ ! -e "$copy/target/bin/parts" ] || fail "after a failed program ($when) there is one"
 done
-for when in staticlib check; do FAIL=$when refuses '' -j4 library program; done
+for when in lib run; do FAIL=$when refuses '' -j4 library program; done
 : >"$place/log"
 makes -j4 library program
 awk '$1 == "begins" { if (open++) exit 1 } $1 == "ends" { open-- }' "$place/log" || { cat "$place/log"; fail 'two provers at once'; }
-[ "$(grep -c begins "$place/log")" = 2 ]
+[ "$(grep -c begins "$place/log")" = 3 ]
 printf 'make: failures and several jobs: ok\n'
 
 # A shared library of the same functions under its soname.
@@ -125,8 +129,10 @@ readelf -d "$place/part" | grep -q "NEEDED.*\[$so\]" || fail 'the example does n
 LD_LIBRARY_PATH="$place/bt/lib" "$place/part" | cmp - examples/c/part.expected
 printf 'make: shared library: ok\n'
 
-# The tar file: the same bytes from another clone, by another user's umask; what it holds works where it is unpacked.
+# The tar file: the same bytes from another clone, by another user's umask; what it holds works where it is unpacked. No link is left in the
+# checkout, where the gate would refuse it.
 makes dist
+[ -z "$(find "$copy" -type l)" ] || fail "dist leaves a link in the checkout: $(find "$copy" -type l)"
 ( umask 077 && mkdir "$place/b" && cp -r "$copy" "$place/b/another name" && make --no-print-directory -C "$place/b/another name" dist ) >/dev/null
 tar=$(cd "$copy" && echo target/dist/*.tar)
 cmp "$copy/$tar" "$place/b/another name/$tar"

@@ -16,9 +16,10 @@ needs() {
     exit 1
 }
 
-# built FILE TARGET: makes the target where its file is not there yet, or a crate has changed since
+# built FILE TARGET: makes the target where its file is not there yet, or a crate has changed since. What the prover leaves in a crate's out/
+# is no change, nor is it one that the crate's folder has got an out/.
 built() {
-    [ -e "$1" ] && [ -z "$(find crates crates.txt -newer "$1" -print -quit)" ] && return
+    [ -e "$1" ] && [ -z "$(find crates crates.txt -regex 'crates/[^/]*/out' -prune -o ! -regex 'crates/[^/]*' -newer "$1" -print -quit)" ] && return
     mkdir -p target
     make --no-print-directory "$2" >target/built.log 2>&1 && return
     cat target/built.log
@@ -28,5 +29,6 @@ built() {
 # copy_of_checkout FOLDER: the checkout without what was built in it
 copy_of_checkout() {
     mkdir -p "$1"
-    tar --exclude=./.git --exclude=./target --exclude=./rust/target --exclude=./second/target -cf - . | tar -C "$1" -xf -
+    tar --exclude=./.git --exclude=./target --exclude=./rust/target --exclude=./second/target --exclude='./crates/*/out' -cf - . |
+        tar -C "$1" -xf -
 }

@@ -156,15 +156,25 @@ for length in 0 40 80; do
     tells "a pipe that does not wait, with $length bytes" "$unread" "$nothing"
 done
 
+# A pipe that nobody reads any more.
+cat >"$place/unread.py" <<'END'
+import os, subprocess, sys
+out, into = os.pipe()
+os.close(out)
+subprocess.run([sys.argv[1]], stdin=open("examples/torus.sketch", "rb"), stdout=into)
+END
+fails python3 "$place/unread.py" "$holes"
+tells 'a pipe that nobody reads' "$unwritten" "$nothing"
+
 # Disks that fail, by a library that stands before the C library.
-for call in READ WRITE CLOSE; do cc -shared -fPIC "-D$call" tests/failing.c -o "$place/$call.so"; done
+for call in READ WRITE SYNC; do cc -shared -fPIC "-D$call" tests/failing.c -o "$place/$call.so"; done
 head -c 10 examples/torus.expected >"$place/ten"
 fails env LD_PRELOAD="$place/READ.so" "$holes" <examples/torus.sketch
 tells 'an I/O error after 40 bytes' "$unread" "$nothing"
 fails env LD_PRELOAD="$place/WRITE.so" "$holes" <examples/torus.sketch
 tells 'a disk that is full after 10 bytes' "$unwritten" "$place/ten"
-fails env LD_PRELOAD="$place/CLOSE.so" "$holes" <examples/torus.sketch
-tells 'a disk that says at the close that it is full' "$unwritten" examples/torus.expected
+fails env LD_PRELOAD="$place/SYNC.so" "$holes" <examples/torus.sketch
+tells 'a disk that says only at the end that it is full' "$unwritten" examples/torus.expected
 
 # Part lists: the examples through both programs, then what parts alone says.
 for list in examples/*.parts; do

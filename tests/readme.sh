@@ -12,9 +12,9 @@ place=$(mktemp -d)
 trap 'rm -rf "$place"' EXIT
 copy=$place/bumbleturf
 copy_of_checkout "$copy"
-# What is proved stays so, and cargo keeps its own home; only what the page itself builds is built here.
+# rt begins in the copy with what it keeps on this machine of the proofs here, and cargo keeps its own home; what the page builds is built
+# here once more.
 mkdir -p "$copy/target" "$place/home" "$place/blocks"
-for part in bin log obj rlib stamp; do if [ -e "target/$part" ]; then cp -a "target/$part" "$copy/target/"; fi; done
 export CARGO_HOME=${CARGO_HOME:-$HOME/.cargo} RUSTUP_HOME=${RUSTUP_HOME:-$HOME/.rustup} CARGO_NET_OFFLINE=true
 export HOME=$place/home
 

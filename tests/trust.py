@@ -22,26 +22,32 @@ def must_believe(path):
     return "reader must believe" in " ".join(head)
 
 
-USE = re.compile(r"^(?:ghost )?use Rattle·(\w+)(?:·\w+)?\.(specs|proofs)\.([\w.·-]+)\.\{(.*)\};?$", re.M)
+# An import may go over several lines, and bring in one name without braces.
+USE = re.compile(r"^(?:pub )?(?:ghost )?use Rattle\.(\w+)\.(specs|proofs)\.([\w.+-]+?)\.(?:\{([^}]*)\}|([^\s.{};]+(?: as [^\s.{};]+)?));?$", re.M)
 # A public function up to its body: the name, the text between. One with a `requires` is a part of a proved caller and no public call.
 CALL = re.compile(r"^\s*pub (?:extern \"C\" )?fn (\w+)\((.*?)\n\s*\{\n", re.M | re.S)
+# A clause, with a name or without one; it may go over several lines, up to the brace that closes it or to the next clause.
+ENSURES = re.compile(r"^\s*ensures\b[^{]*\{(.*?)\}[ \t]*(?=\n\s*(?:ensures|requires)\b|\Z)", re.M | re.S)
+REQUIRES = re.compile(r"^\s*requires\b", re.M)
 
 
 def imported(text):
     """name -> file, for what the `use` lines of a file bring in from this repository (types declared in code are no definitions)"""
     names = {}
-    for crate, kind, module, group in USE.findall(text):
-        if module.startswith("declared"):
+    for crate, kind, module, group, one in USE.findall(text):
+        # (std and the kit's other libraries are no crates of this repository)
+        if module.startswith("declared") or not os.path.isdir("crates/" + crate):
             continue
-        for name in group.split(","):
+        for name in (group or one).split(","):
             local = name.split(" as ")[-1].strip()
             names[local] = "crates/%s/%s/%s.antt" % (crate, kind, module.split(".")[0])
+    names.pop("", None)
     return names
 
 
 def words(text):
-    """the names in a text; a field, as in `t .entry`, is none"""
-    return set(re.findall(r"[^\s(){},;⌜⌝]+", re.sub(r"\s\.[^\s(){},;]+", " ", text)))
+    """the names in a text; a field, as in `t.old` or `(f x).answer`, is none"""
+    return set(re.findall(r"[^\s(){},;.]+", re.sub(r"(?<=[^\s({,;])\.[^\s(){},;.]+", " ", text)))
 
 
 def contract_citations():
@@ -50,8 +56,8 @@ def contract_citations():
         text = open(path, encoding="utf-8").read()
         names = imported(text)
         for function, head in CALL.findall(text):
-            if "requires {" not in head:
-                for name in words(" ".join(re.findall(r"ensures \{(.*)\}", head))) & set(names):
+            if not REQUIRES.search(head):
+                for name in words(" ".join(ENSURES.findall(head))) & set(names):
                     yield "%s:%s" % (path, function), name, names[name]
 
 
