@@ -3,7 +3,7 @@
 use mathlib.Core.Path.{sym, ap, ◌∙◌}
 use Rattle.audit.specs.Audit.{is_sound}
 use Rattle.table.proofs.Sizes.{sized_is_sized}
-use Rattle.audit.proofs.Verdicts.{audit_accepts, audit_refuses_invalid}
+use Rattle.audit.proofs.Verdicts.{audit_accepts, audit_refuses_invalid, audit_refuses_length}
 use Rattle.audit.proofs.audit.Goals as goal
 
 pub first_breach-found-requires : goal.first_breach-found-requires
@@ -22,3 +22,7 @@ returns-in-Broken c =
     audit_refuses_invalid c.args.t.now c.in-Broken.b
     (sym c.fits.ensures ∙ c.if-not-fits.false)
     (sym c.first_breach-found.ensures ∙ c.in-Broken.is)
+
+pub returns-then-not-fits : goal.returns-then-not-fits
+returns-then-not-fits c =
+    audit_refuses_length c.args.t.now (sym c.fits.ensures ∙ c.if-not-fits.true)

@@ -6,7 +6,9 @@
 use mathlib.Core.Path.{sym, ◌∙◌}
 use native.Mathlib.Omega.{arith}
 use borrow.Author.Tests.{eqb-true}
-use Rattle.audit.proofs.Clearing.{one_more, all_equal}
+use Rattle.audit.proofs.Clearing.{one_more, all_equal, used_above}
+use Prim.Native.Nat.{◌-◌}
+use Rattle.table.specs.Table.{dim, face}
 use Rattle.audit.proofs.clears_as.Goals as goal
 
 pub loop-j-preserved : goal.loop-j-preserved
@@ -26,3 +28,6 @@ returns c =
     let d = c.loop-j-3.invariant a.0 in
     let u = c.loop-j.invariant d.0 in
     all_equal i.0 c.requires.p_value.1 (λ k h. i.1 k (omega arith)) (λ k h. d.1 k (omega arith)) (λ j h. a.1 j (omega arith)) (λ k h. u.1 k (omega arith))
+
+pub overflow_sub-bad : goal.overflow_sub-bad
+overflow_sub-bad c = used_above c.loop-j-2.invariant.0 _ c.loop-j-3-test.true

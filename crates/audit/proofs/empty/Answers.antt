@@ -3,7 +3,8 @@
 use mathlib.Core.Path.{sym, ◌∙◌}
 use native.Mathlib.Omega.{arith}
 use Rattle.audit.proofs.Empties.{filled_is_emptied}
-use Rattle.audit.proofs.Verdicts.{empty_accepts}
+use Rattle.audit.proofs.Verdicts.{empty_accepts, empty_refuses}
+use Prim.Native.Nat.{◌-◌}
 use Rattle.audit.proofs.empty.Goals as goal
 
 pub returns : goal.returns
@@ -12,3 +13,6 @@ returns c =
     let at = c.loop-k in
     empty_accepts t at.t (sym c.fits.ensures ∙ c.if-not-fits.false)
     (filled_is_emptied t at.t at.k at.invariant.0 (omega arith) at.invariant.2)
+
+pub returns-then-not-fits : goal.returns-then-not-fits
+returns-then-not-fits c = empty_refuses c.args.t.now (sym c.fits.ensures ∙ c.if-not-fits.true)

@@ -2,7 +2,7 @@
 -- The measure: the records left. Assumes nothing.
 use mathlib.Core.Path.{◌≡◌, ◌∙◌}
 use mathlib.Core.Bool.{false}
-use Prim.Native.Nat.{◌+◌, ◌≤◌, ◌<◌}
+use Prim.Native.Nat.{◌+◌, ◌≤◌, ◌<◌, ◌-◌}
 use borrow.Author.Rules.{rules}
 use native.Mathlib.Omega.{arith}
 use lib.ListN.{length}
@@ -14,7 +14,7 @@ use Rattle.sketch.specs.Read.{count_in, numbers_fit}
 use Rattle.sketch.proofs.Fits.{contents_fit_lem}
 use Rattle.reader.proofs.Contents.{record_inside}
 use Rattle.reader.proofs.Steps.{refused, going_more}
-use Rattle.reader.proofs.Bodies.{body_begins}
+use Rattle.reader.proofs.Bodies.{body_begins, body_ends}
 use Rattle.reader.proofs.take_records.Goals as goal
 use Rattle.reader.proofs.take_records.Goals.{After-two_at-c, Else-c-n, In-loop-i, Start}
 
@@ -94,3 +94,8 @@ loop-i-preserved c =
           c.faces_at.ensures
           put.ensures,
     )
+
+pub returns : goal.returns
+returns c =
+    let l = c.loop-i in
+    body_ends _ _ _ _ l.at l.low l.i _ l.invariant.0 c.loop-i-test.false c.count_in-count.ensures l.invariant.2

@@ -2,7 +2,7 @@
 -- their images, and the rest of the record is as it was. The measure: the places left. Assumes nothing.
 use borrow.Author.Rules.{rules}
 use mathlib.Core.Path.{◌≡◌, sym, ◌∙◌}
-use Prim.Native.Nat.{◌<◌}
+use Prim.Native.Nat.{◌<◌, ◌-◌}
 use native.Mathlib.Omega.{arith}
 use lib.ListN.{get_or-replicate}
 use Rattle.table.specs.Kind.{faces, free_mark, used}
@@ -10,8 +10,10 @@ use Rattle.table.specs.Table.{dim}
 use Rattle.table.proofs.Stores.{faced_more}
 use Rattle.weld.specs.Maps.{held_by}
 use Rattle.weld.proofs.Sending.{map_inside}
-use Rattle.weld.proofs.Writing.{record_freed, record_kept, image_is, faces_sent}
+use Rattle.weld.proofs.Writing.{record_freed, record_kept, image_is, faces_sent, face_held}
+use Rattle.table.proofs.Places.{used_fits}
 use Rattle.weld.proofs.rename_as.Goals as goal
+use Rattle.weld.proofs.rename_as.Goals.{After-wide, In-loop-j}
 use Rattle.weld.proofs.rename_as.Goals.{After-wide, In-loop-j}
 
 -- what was asked, and that the word compared is where c goes
@@ -39,3 +41,11 @@ returns c =
     let l = c.loop-j in
     let sent = faces_sent _ _ _ c.requires.0 l.t l.j (omega (arith, c.loop-j-test.false, c.requires.1)) l.invariant.2 in
     record_kept (held_by c.args.k.now c.args.t.now) _ _ _ sent (sym (goes (goal.at.returns c).After-wide) ∙ c.if-wide-c.false)
+
+inside : (c : In-loop-j) → c.loop-j.j < faces
+inside c = omega (arith, (omega (arith, c.loop-j-test.true, c.requires.1)), used_fits (dim c.args.t.now c.args.c))
+
+pub image-requires : goal.image-requires
+image-requires c =
+    let l = c.loop-j in
+    face_held _ _ _ c.requires.0 l.t l.j _ (place (goal.at.image-requires c).In-loop-j) l.invariant.2 c.face-f.ensures

@@ -3,7 +3,8 @@
 use native.Mathlib.Omega.{arith}
 use Rattle.table.specs.Kind.{dimensions}
 use Rattle.writer.specs.Put.{in_array}
-use Rattle.writer.proofs.Starts.{start_more, starts_first, starts_more}
+use Rattle.writer.proofs.Starts.{start_more, starts_first, starts_more, starts_all}
+use Prim.Native.Nat.{◌-◌}
 use Rattle.writer.proofs.body_starts.Goals as goal
 
 pub loop-p-init : goal.loop-p-init
@@ -17,3 +18,6 @@ next_start-requires c =
 pub loop-p-preserved : goal.loop-p-preserved
 loop-p-preserved c =
     (omega arith, starts_more c.loop-p.invariant.1 _ c.loop-p-test.true c.next_start.ensures)
+
+pub returns : goal.returns
+returns c = starts_all c.loop-p.invariant.1 c.loop-p-test.false
