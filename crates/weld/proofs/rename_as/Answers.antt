@@ -16,7 +16,7 @@ use Rattle.weld.proofs.rename_as.Goals as goal
 use Rattle.weld.proofs.rename_as.Goals.{After-wide, In-loop-j}
 use Rattle.weld.proofs.rename_as.Goals.{After-wide, In-loop-j}
 
--- what was asked, and that the word compared is where c goes
+-- the word compared is where c goes
 goes : (c : After-wide) → c.wide.result ≡ held_by c.args.k.now c.args.t.now c.args.c
 goes c = c.wide.ensures ∙ sym (map_inside _ _ _ c.requires.0.inside)
 
