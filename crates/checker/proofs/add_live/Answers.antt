@@ -1,0 +1,15 @@
+-- `add_live` meets its contract: a number with a dimension goes into that set, any other into none. Assumes nothing.
+use Prim.Native.Nat.{◌≤◌, ◌<◌}
+use native.Mathlib.Omega.{arith}
+use Rattle.table.specs.Kind.{capacity, top}
+use Rattle.complex.specs.Cells.{cells}
+use Rattle.checker.proofs.LiveSets.{lives_toggled}
+use Rattle.checker.proofs.add_live.Goals as goal
+
+pub returns-then-p-lt-DIMENSIONS : goal.returns-then-p-lt-DIMENSIONS
+returns-then-p-lt-DIMENSIONS c =
+    let level : c.dim-p.result ≤ top = omega (arith, c.if-p-lt-DIMENSIONS.true) in
+    let small : c.args.c < capacity = omega (arith, c.requires.c_bound, c.requires.frame.room) in
+    rw c.toggle.ensures
+    (lives_toggled (cells c.args.t.now) c.args.c c.args.lives.now c.requires.lives c.dim-p.result c.dim-p.ensures
+    (c.requires.frame.living c.args.c c.requires.c_bound (omega (arith, c.dim-p.ensures))) level small)
