@@ -1,7 +1,7 @@
 -- The corners of each cell give way to its faces: the facets' numbers, and the table on the way.
 -- What carries it: a facet stands before its cell, so its number is found among the records that still hold corners. Assumes nothing.
 use mathlib.Core.Path.{◌≡◌, refl, sym, ap, subst, ◌∙◌}
-use mathlib.Core.Logic.{◌⊎◌, ⊎_elim}
+use mathlib.Core.Logic.{⊎_elim}
 use mathlib.Core.List.{List, [], ◌∷◌, Memᴰ as In}
 use Prim.Native.Nat.{ℕ, zero, suc, ◌+◌, ◌-◌, ◌≤◌, ◌<◌}
 use native.Mathlib.Omega.{arith}
@@ -9,7 +9,7 @@ use lib.ListN.{length, get_or, set, take, replicate, length-set, get_or-replicat
 use lib.Seq.{take_all, get_or-take, length-take-le, get_or-set_same, get_or-set_other}
 use Rattle.counting.proofs.Cases.{below_or_not, same_or_not, same_or_other}
 use Rattle.table.specs.Kind.{faces, free_mark, used}
-use Rattle.table.specs.Table.{dim, face, faces_of}
+use Rattle.table.specs.Table.{dim, faces_of}
 use Rattle.table.specs.Records.{record_at, free_record, table_of, Alike, Stored}
 use Rattle.table.proofs.Stores.{alike_then, alike_back}
 use Rattle.table.proofs.Words.{length_table_of, record_table_of, table_by_records}
