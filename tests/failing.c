@@ -1,7 +1,7 @@
 /* Stands before the C library's own calls (LD_PRELOAD), so that the programs meet what a disk does when it fails:
  *   -DREAD   the first read gives 40 bytes, each later one an I/O error
  *   -DWRITE  standard output takes 10 bytes, then the disk is full
- *   -DCLOSE  the disk says only at the close of standard output that it is full
+ *   -DCLOSE  the disk says only when all that it was given is asked for, or at the close of standard output, that it is full
  */
 #define _GNU_SOURCE
 #include <errno.h>
@@ -34,6 +34,13 @@ ssize_t write(int fd, const void *buffer, size_t n)
 #endif
 
 #ifdef CLOSE
+int fsync(int fd)
+{
+    (void)fd;
+    errno = ENOSPC;
+    return -1;
+}
+
 int close(int fd)
 {
     if (fd != STDOUT_FILENO) return syscall(SYS_close, fd);

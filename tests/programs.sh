@@ -164,7 +164,7 @@ tells 'an I/O error after 40 bytes' "$unread" "$nothing"
 fails env LD_PRELOAD="$place/WRITE.so" "$holes" <examples/torus.sketch
 tells 'a disk that is full after 10 bytes' "$unwritten" "$place/ten"
 fails env LD_PRELOAD="$place/CLOSE.so" "$holes" <examples/torus.sketch
-tells 'a disk that says at the close that it is full' "$unwritten" examples/torus.expected
+tells 'a disk that says at the end that it is full' "$unwritten" examples/torus.expected
 
 # Part lists: the examples through both programs, then what parts alone says.
 for list in examples/*.parts; do
