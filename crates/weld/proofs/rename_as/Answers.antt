@@ -14,7 +14,6 @@ use Rattle.weld.proofs.Writing.{record_freed, record_kept, image_is, faces_sent,
 use Rattle.table.proofs.Places.{used_fits}
 use Rattle.weld.proofs.rename_as.Goals as goal
 use Rattle.weld.proofs.rename_as.Goals.{After-wide, In-loop-j}
-use Rattle.weld.proofs.rename_as.Goals.{After-wide, In-loop-j}
 
 -- the word compared is where c goes
 goes : (c : After-wide) → c.wide.result ≡ held_by c.args.k.now c.args.t.now c.args.c
@@ -41,9 +40,6 @@ returns c =
     let l = c.loop-j in
     let sent = faces_sent _ _ _ c.requires.0 l.t l.j (omega (arith, c.loop-j-test.false, c.requires.1)) l.invariant.2 in
     record_kept (held_by c.args.k.now c.args.t.now) _ _ _ sent (sym (goes (goal.at.returns c).After-wide) ∙ c.if-wide-c.false)
-
-inside : (c : In-loop-j) → c.loop-j.j < faces
-inside c = omega (arith, (omega (arith, c.loop-j-test.true, c.requires.1)), used_fits (dim c.args.t.now c.args.c))
 
 pub image-requires : goal.image-requires
 image-requires c =

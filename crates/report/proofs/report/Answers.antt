@@ -1,0 +1,37 @@
+-- `report` meets its contract: what is no sketch is refused; else a blank table of its size is read into. Assumes nothing.
+use mathlib.Core.Path.{◌≡◌, sym, ◌∙◌}
+use mathlib.Core.Bool.{false}
+use Prim.Native.Nat.{◌*◌, ◌≤◌}
+use native.Mathlib.Omega.{arith}
+use Rattle.table.specs.Kind.{capacity}
+use Rattle.bitset.specs.Bits.{full_width}
+use Rattle.report.specs.Report.{no_sketch}
+use Rattle.report.proofs.Telling.{passes, words_fit, reports_none}
+use Rattle.report.proofs.report.Goals as goal
+use Rattle.report.proofs.report.Goals.{After-size_in-n, After-words_for, Else-no_sketch}
+
+-- past the test the file may be a sketch
+a_sketch_here : (c : Else-no_sketch) → no_sketch c.args.file.now ≡ false
+a_sketch_here c = sym c.no_sketch.ensures ∙ c.if-no_sketch.false
+
+few : (c : After-size_in-n) → c.size_in-n.result ≤ capacity
+few c = omega (arith, (passes c.args.file.now ((sym c.no_sketch.ensures ∙ c.if-no_sketch.false))).few, c.size_in-n.ensures)
+
+rows_few : (c : After-words_for) → c.size_in-n.result * c.words_for.result ≤ capacity * full_width
+rows_few c = words_fit c.size_in-n.result c.words_for.result ((omega (arith, (passes c.args.file.now ((sym c.no_sketch.ensures ∙ c.if-no_sketch.false))).few, c.size_in-n.ensures))) c.words_for.ensures
+
+pub returns-then-no_sketch : goal.returns-then-no_sketch
+returns-then-no_sketch c =
+    (
+      reports_none c.args.file.now _ (sym c.no_sketch.ensures ∙ c.if-no_sketch.true) c.refused.ensures.0,
+      c.refused.ensures.1,
+    )
+
+pub size_in-n-requires : goal.size_in-n-requires
+size_in-n-requires c = (passes c.args.file.now (a_sketch_here (goal.at.size_in-n-requires c).Else-no_sketch)).contents
+
+pub overflow_mul-words : goal.overflow_mul-words
+overflow_mul-words c = omega (arith, few (goal.at.overflow_mul-words c).After-size_in-n)
+
+pub overflow_mul-row_words : goal.overflow_mul-row_words
+overflow_mul-row_words c = omega (arith, rows_few (goal.at.overflow_mul-row_words c).After-words_for)
