@@ -2,20 +2,18 @@
 use Rattle.report.proofs.Accepted.{cells_fit, holes_fit, answers_are_hole_lines}
 use Rattle.report.proofs.count_holes.Goals as goal
 
--- CONV: at After-additions: .reduce in r.reduce.ensures
--- CONV: at After-additions: .reduce in r.reduce.ensures
 pub lines-requires : goal.lines-requires
 lines-requires c =
     let t = c.args.t.now in
-    let ev = c.args.evidence.now in (
-      cells_fit t ev _ _ _ _ _ c.pre.0 c.pre.1 r.reduce.ensures c.check-checked.ensures,
-      holes_fit t ev _ _ _ _ _ c.pre.0 c.pre.1 r.reduce.ensures c.check-checked.ensures,
-    )
+    let ev = c.args.evidence.now in
+    record {
+      by_index = cells_fit t ev _ _ _ _ _ c.requires.valid c.requires.evidence_len c.reduce.ensures c.check-checked.ensures;
+      by_index_2 = holes_fit t ev _ _ _ _ _ c.requires.valid c.requires.evidence_len c.reduce.ensures c.check-checked.ensures;
+    }
 
--- CONV: at After-additions: .reduce in r.reduce.ensures
 pub returns : goal.returns
 returns c =
-    (
-      answers_are_hole_lines c.args.t.now c.args.evidence.now _ _ _ _ _ c.pre.0 c.pre.1 r.reduce.ensures c.check-checked.ensures _ c.lines.ensures.0,
-      c.lines.ensures.1,
-    )
+    record {
+      hole_lines = answers_are_hole_lines c.args.t.now c.args.evidence.now _ _ _ _ _ c.requires.valid c.requires.evidence_len c.reduce.ensures c.check-checked.ensures _ c.lines.ensures.result_value;
+      len_lt_room = c.lines.ensures.len_lt_room;
+    }

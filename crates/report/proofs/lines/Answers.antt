@@ -2,7 +2,6 @@
 -- Assumes nothing.
 use borrow.Author.Rules.{rules}
 use mathlib.Core.Path.{refl}
-use Prim.Native.Nat.{◌-◌}
 use native.Mathlib.Omega.{arith}
 use Rattle.report.proofs.Growing.{no_lines, one_line_more, all_lines}
 use Rattle.report.proofs.lines.Goals as goal
@@ -18,4 +17,7 @@ loop-p-preserved c =
 pub returns : goal.returns
 returns c =
     let i = c.loop-p in
-    (all_lines _ _ i.p i.r i.invariant.0 c.loop-p-test.false i.invariant.1, (omega (arith, i.invariant.0, i.invariant.1.short), i.invariant.1.zeros))
+    record {
+      result_value = all_lines _ _ i.p i.r i.invariant.0 c.loop-p-test.false i.invariant.1;
+      len_lt_room = (omega (arith, i.invariant.0, i.invariant.1.short), i.invariant.1.zeros);
+    }

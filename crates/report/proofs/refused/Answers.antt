@@ -7,7 +7,7 @@ use Rattle.report.proofs.refused.Goals as goal
 
 pub returns : goal.returns
 returns c =
-    (
-      refused_text c.number-number.result (number_of c.args.why) c.number-number.ensures refl c.push_number.ensures c.push.ensures,
-      (omega (arith, c.push_number.ensures.short, c.push.ensures.short), c.push.ensures.zeros (c.push_number.ensures.zeros refl)),
-    )
+    record {
+      result_value = refused_text c.number-number.result (number_of c.args.why) c.number-number.ensures refl c.push_number.ensures c.push.ensures;
+      len_lt_room = (omega (arith, c.push_number.ensures.short, c.push.ensures.short), c.push.ensures.zeros (c.push_number.ensures.zeros refl));
+    }

@@ -3,10 +3,10 @@ use mathlib.Core.Path.{◌≡◌, sym, ◌∙◌}
 use mathlib.Core.Bool.{false}
 use Prim.Native.Nat.{◌*◌, ◌≤◌}
 use native.Mathlib.Omega.{arith}
-use Rattle.table.specs.Kind.{capacity}
+use Rattle.table.specs.Kind.{capacity, width, free_mark}
 use Rattle.bitset.specs.Bits.{full_width}
 use Rattle.report.specs.Report.{no_sketch}
-use Rattle.report.proofs.Telling.{passes, words_fit, reports_none}
+use Rattle.report.proofs.Telling.{passes, front_long, words_fit, blank_table, reports_none, reports_told}
 use Rattle.report.proofs.report.Goals as goal
 use Rattle.report.proofs.report.Goals.{After-size_in-n, After-words_for, Else-no_sketch}
 
@@ -22,10 +22,10 @@ rows_few c = words_fit c.size_in-n.result c.words_for.result ((omega (arith, (pa
 
 pub returns-then-no_sketch : goal.returns-then-no_sketch
 returns-then-no_sketch c =
-    (
-      reports_none c.args.file.now _ (sym c.no_sketch.ensures ∙ c.if-no_sketch.true) c.refused.ensures.0,
-      c.refused.ensures.1,
-    )
+    record {
+      reports = reports_none c.args.file.now _ (sym c.no_sketch.ensures ∙ c.if-no_sketch.true) c.refused.ensures.result_value;
+      len_lt_room = c.refused.ensures.len_lt_room;
+    }
 
 pub size_in-n-requires : goal.size_in-n-requires
 size_in-n-requires c = (passes c.args.file.now (a_sketch_here (goal.at.size_in-n-requires c).Else-no_sketch)).contents
@@ -35,3 +35,25 @@ overflow_mul-words c = omega (arith, few (goal.at.overflow_mul-words c).After-si
 
 pub overflow_mul-row_words : goal.overflow_mul-row_words
 overflow_mul-row_words c = omega (arith, rows_few (goal.at.overflow_mul-row_words c).After-words_for)
+
+pub slice_bounds-table-end : goal.slice_bounds-table-end
+slice_bounds-table-end c = omega (arith, few (goal.at.slice_bounds-table-end c).After-size_in-n)
+
+pub slice_bounds-tell-end : goal.slice_bounds-tell-end
+slice_bounds-tell-end c = front_long (c.size_in-n.result * width) (capacity * width) free_mark (omega (arith, few (goal.at.slice_bounds-tell-end c).After-size_in-n))
+
+pub slice_bounds-evidence-end : goal.slice_bounds-evidence-end
+slice_bounds-evidence-end c = omega (arith, rows_few (goal.at.slice_bounds-evidence-end c).After-words_for)
+
+pub slice_bounds-tell-end-2 : goal.slice_bounds-tell-end-2
+slice_bounds-tell-end-2 c = front_long (c.size_in-n.result * c.words_for.result) (capacity * full_width) 0 (omega (arith, rows_few (goal.at.slice_bounds-tell-end-2 c).After-words_for))
+
+pub returns : goal.returns
+returns c =
+    let f = c.args.file.now in
+    let sketch = a_sketch_here (goal.at.returns c).Else-no_sketch in
+    let fits = few (goal.at.returns c).After-size_in-n in
+    record {
+      reports = reports_told f _ _ sketch (blank_table c.size_in-n.result (capacity * width) fits (omega arith) f c.size_in-n.ensures) c.tell.ensures.told;
+      len_lt_room = c.tell.ensures.len_lt_room;
+    }

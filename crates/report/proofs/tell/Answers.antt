@@ -8,15 +8,15 @@ use Rattle.report.proofs.tell.Goals as goal
 use Rattle.report.proofs.tell.Goals.{In-Accepted}
 
 -- the file was accepted
-accepted_here : (e : In-Accepted) → let r = e.before.before.before.before in let a = r.before.before.before.before.before.args in read_verdict a.t.now a.file.now ≡ Accepted
-accepted_here e = sym e.before.before.before.before.read.ensures.answer ∙ e.enum_told.given.1
+accepted_here : (e : In-Accepted) → read_verdict e.args.t.now e.args.file.now ≡ Accepted
+accepted_here e = sym e.read-verdict.ensures.answer ∙ e.in-Accepted.is
 
--- CONV: at After-read-arg: .read in r.read.ensures.left
--- CONV: at After-read-arg: .read in r.read.ensures.left
 pub count_holes-requires : goal.count_holes-requires
 count_holes-requires c =
     let t = c.args.t.now in
-    let f = c.args.file.now in (
-      left_valid t f _ (accepted_here (goal.at.count_holes-requires c).In-Accepted-1) r.read.ensures.left,
-      left_words t f _ (accepted_here (goal.at.count_holes-requires c).In-Accepted-1) r.read.ensures.left (length c.args.evidence.now) c.requires,
-    )
+    let f = c.args.file.now in
+    let told = accepted_here (goal.at.count_holes-requires c).In-Accepted in
+    record {
+      valid = left_valid t f _ told c.read-verdict.ensures.left;
+      evidence_len = left_words t f _ told c.read-verdict.ensures.left (length c.args.evidence.now) c.requires;
+    }
