@@ -18,7 +18,7 @@ use Rattle.calls.specs.declared.Refusal.TheVariants.{BadText}
 use Rattle.calls.specs.declared.Verdict.{Verdict}
 use Rattle.calls.specs.declared.Verdict.TheVariants.{Accepted, Refused}
 use Rattle.calls.proofs.Grounds.{none_applies_accepted}
-use Rattle.table.specs.Table.{Valid, sized}
+use Rattle.table.specs.Table.{Valid}
 use Rattle.table.specs.Kind.{dimensions}
 use Rattle.audit.proofs.Valid.{valid_is_sound, valid_is_sized}
 use Rattle.sketch.specs.Form.{longest}
