@@ -49,7 +49,7 @@ module _ (t : List ℕ) (x : List ℤ) (p : ℕ) (y₀ : List ℤ) (a : Addable 
       (λ u l. ap (λ (y : List ℤ). get_or y u (pos 0)) a.cleared ∙ integers_at (cells_of t) (λ u. pos 0) u l ∙ sym (reached_none t p (coefficient x) u))
 
   module _ (y : List ℤ) (c : ℕ) (so_far : y ≡ integers (cells_of t) (reached t p (coefficient x) c)) where
-    pub reached_long : length y ≡ cells_of t
+    reached_long : length y ≡ cells_of t
     reached_long = ap length so_far ∙ integers_length (cells_of t) (reached t p (coefficient x) c)
 
     reached_at : (u : ℕ) → u < cells_of t → get_or y u (pos 0) ≡ reached t p (coefficient x) c u

@@ -3,9 +3,12 @@ use mathlib.Core.Path.{◌≡◌, sym, ◌∙◌}
 use mathlib.Core.Bool.{true}
 use native.Mathlib.Omega.{arith}
 use Rattle.table.specs.Table.{sized}
-use Rattle.reading.proofs.Lengths.{chain_differs, chain_fits, no_table}
+use Rattle.reading.proofs.Lengths.{no_table, chain_differs, chain_fits}
 use Rattle.reading.proofs.lengths_fit.Goals as goal
 use Rattle.reading.proofs.lengths_fit.Goals.{Else-not-fits}
+
+pub returns-then-not-fits : goal.returns-then-not-fits
+returns-then-not-fits c = no_table _ _ _ (sym c.fits.ensures ∙ c.if-not-fits.true)
 
 -- past the first test the words are a table's
 fitting : (c : Else-not-fits) → sized c.args.t.now ≡ true
@@ -20,6 +23,3 @@ pub returns : goal.returns
 returns c =
     let a = c.args in
     chain_fits _ a.chain.now _ (fitting (goal.at.returns c).Else-not-fits) c.room-n.result c.room-n.ensures (omega (arith, c.if-chain-n.false))
-
-pub returns-then-not-fits : goal.returns-then-not-fits
-returns-then-not-fits c = no_table _ _ _ (sym c.fits.ensures ∙ c.if-not-fits.true)
