@@ -1,9 +1,9 @@
 -- `face_numbers` meets its contract. The invariant: the faces at the places below j are found. The measure: the places left.
 -- Assumes nothing.
-use Prim.Native.Nat.{◌<◌}
+use Prim.Native.Nat.{◌<◌, ◌-◌}
 use native.Mathlib.Omega.{arith}
 use Rattle.table.specs.Kind.{faces, used}
-use Rattle.intake.proofs.Faces.{faces_more, faces_all}
+use Rattle.intake.proofs.Faces.{faces_more, faces_all, faces_none}
 use Rattle.intake.proofs.face_numbers.Goals as goal
 use Rattle.intake.proofs.face_numbers.Goals.{In-loop-j}
 
@@ -23,3 +23,6 @@ pub returns : goal.returns
 returns c =
     let l = c.loop-j in
     faces_all _ _ _ _ l.f l.j l.invariant (omega (arith, c.loop-j-test.false, c.used-used.ensures.0))
+
+pub loop-j-init : goal.loop-j-init
+loop-j-init c = faces_none _ _ _ _

@@ -3,9 +3,11 @@ use mathlib.Core.Path.{◌∙◌}
 use native.Mathlib.Omega.{arith}
 use Rattle.table.specs.Table.{cells_of}
 use Rattle.intake.specs.Steps.{Gathers, Sweeps}
-use Rattle.intake.proofs.Filling.{gathers_there, sweeps_there, puts_there, fills_no_points, fills_no_facets, fills_all}
+use Rattle.intake.proofs.Filling.{gathers_there, sweeps_there, puts_there, fills_no_points, fills_no_facets, fills_all, fills_no_lines, kept_here}
+use Prim.Native.Nat.{ℕ, ◌-◌, ◌<◌}
 use Rattle.intake.proofs.fill.Goals as goal
 use Rattle.intake.proofs.fill.Goals.{After-take_lines-gathered, After-sweep-m}
+use Rattle.intake.proofs.fill.Goals.{After-take_lines-gathered, Else-n-room}
 
 -- the lines, and the room as it was at first
 gathered :
@@ -34,3 +36,20 @@ returns c =
     (omega (arith, c.if-gathered-room.false, c.room-room.ensures)) _ _ (swept (goal.at.returns c).After-sweep-m)
     (omega (arith, c.if-m-room.false, c.room-room.ensures)) _
     (puts_there c.args.t.now _ (c.sweep-m.auto.t ∙ c.take_lines-gathered.auto.t ∙ c.take_points.auto.t) c.put_faces.ensures)
+
+above : (e : Else-n-room) {m : ℕ} → e.room-room.result < m → cells_of e.args.t.now < m
+above e h = omega (arith, h, e.room-room.ensures)
+
+pub returns-then-gathered-room : goal.returns-then-gathered-room
+returns-then-gathered-room c =
+    fills_no_lines _ _ _ _ _ (gathered (goal.at.returns-then-gathered-room c).After-take_lines-gathered) (above (goal.at.returns-then-gathered-room c).Else-n-room c.if-gathered-room.true)
+
+pub take_lines-gathered-requires : goal.take_lines-gathered-requires
+take_lines-gathered-requires c =
+    (
+      omega (arith, c.if-n-room.false, c.room-room.ensures, c.take_points.auto.0),
+      omega (arith, c.if-n-room.false, c.room-room.ensures, c.pre.0),
+      kept_here c.args.t.now _ c.take_points.auto.0 c.take_points.ensures,
+      c.pre.2,
+      c.pre.3,
+    )

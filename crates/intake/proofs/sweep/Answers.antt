@@ -5,8 +5,9 @@ use Prim.Native.Nat.{◌-◌}
 use native.Mathlib.Omega.{arith}
 use Rattle.table.specs.Table.{cells_of}
 use Rattle.intake.specs.Steps.{SweepsCell}
-use Rattle.intake.proofs.Facets.{cells_more, cells_all, same_room}
+use Rattle.intake.proofs.Facets.{cells_more, cells_all, same_room, cells_full}
 use Rattle.intake.proofs.sweep.Goals as goal
+use Rattle.intake.proofs.sweep.Goals.{After-take_facets-grown}
 use Rattle.intake.proofs.sweep.Goals.{After-take_facets-grown}
 
 -- the room is that of the table at first
@@ -27,3 +28,8 @@ loop-c-preserved c =
 
 pub returns : goal.returns
 returns c = cells_all _ _ _ _ _ _ c.loop-c.invariant.2 c.loop-c-test.false
+
+pub returns-then-grown-room : goal.returns-then-grown-room
+returns-then-grown-room c =
+    let l = c.loop-c in
+    cells_full _ _ _ _ _ _ l.invariant.2 _ _ c.loop-c-test.true (here (goal.at.returns-then-grown-room c).After-take_facets-grown) (omega (arith, c.if-grown-room.true, l.invariant.0))

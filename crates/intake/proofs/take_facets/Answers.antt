@@ -1,10 +1,10 @@
 -- `take_facets` meets its contract. The invariant: the facets at the places below j are taken in. The measure: the places left.
 -- Assumes nothing.
-use mathlib.Core.Path.{◌∙◌}
-use Prim.Native.Nat.{◌<◌}
+use mathlib.Core.Path.{◌∙◌, refl}
+use Prim.Native.Nat.{◌<◌, ◌-◌}
 use native.Mathlib.Omega.{arith}
 use Rattle.table.specs.Kind.{used}
-use Rattle.intake.proofs.Facets.{facets_more, facets_full, facets_all, facets_low}
+use Rattle.intake.proofs.Facets.{facets_more, facets_full, facets_all, facets_low, facets_none}
 use Rattle.intake.proofs.take_facets.Goals as goal
 use Rattle.intake.proofs.take_facets.Goals.{In-loop-j}
 
@@ -31,3 +31,6 @@ pub returns : goal.returns
 returns c =
     facets_all _ _ _ _ _ _ c.dim-p.ensures c.faces-words.ensures c.if-p-lt2.false _ _ _ c.loop-j.invariant.1
     (omega (arith, c.loop-j-test.false, c.used-used.ensures.0))
+
+pub loop-j-init : goal.loop-j-init
+loop-j-init c = (refl, facets_none _ _ _ _ c.requires.1)

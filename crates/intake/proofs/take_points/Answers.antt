@@ -1,8 +1,8 @@
 -- `take_points` meets its contract. The invariant: the points below c are taken in. The measure: the points left. Assumes nothing.
 use mathlib.Core.Path.{refl, ◌∙◌}
-use mathlib.Core.List.{[]}
 use native.Mathlib.Omega.{arith}
-use Rattle.intake.proofs.Points.{points_none, points_more}
+use Rattle.intake.proofs.Points.{points_none, points_more, points_all}
+use Prim.Native.Nat.{◌-◌}
 use Rattle.intake.proofs.take_points.Goals as goal
 
 pub loop-c-init : goal.loop-c-init
@@ -15,3 +15,6 @@ loop-c-preserved c =
       c.put.ensures.size ∙ l.invariant.1,
       points_more _ _ _ l.c l.invariant.2 (omega (arith, c.loop-c-test.true, c.requires.0)) c.put.ensures,
     )
+
+pub returns : goal.returns
+returns c = let l = c.loop-c in points_all _ _ [] l.c _ c.loop-c-test.false l.invariant.0 l.invariant.2

@@ -1,5 +1,5 @@
 -- `repeated` meets its contract. The invariant: none of the numbers passed is number i. The measure: the places left. Assumes nothing.
-use Rattle.partlist.proofs.Indices.{repeats, repeats_none, different_more}
+use Rattle.partlist.proofs.Indices.{repeats, repeats_none, different_more, different_none}
 use Prim.Native.Nat.{◌-◌}
 use native.Mathlib.Omega.{arith}
 use Rattle.lines.proofs.repeated.Goals as goal
@@ -12,3 +12,6 @@ returns c = repeats_none _ _ c.loop-j.j c.loop-j-test.false c.loop-j.invariant.1
 
 pub loop-j-preserved : goal.loop-j-preserved
 loop-j-preserved c = (omega arith, different_more _ _ _ c.loop-j.invariant.1 c.if-numbers-j.false)
+
+pub loop-j-init : goal.loop-j-init
+loop-j-init c = (omega arith, different_none _ _)

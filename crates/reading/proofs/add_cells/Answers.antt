@@ -1,13 +1,12 @@
 -- `reading::add_cells` meets its contract. The invariant: the result is the boundary of the cells passed. The measure: what is left of
 -- the chain. Assumes nothing.
-use mathlib.Core.Path.{refl, ◌∙◌, sym}
+use mathlib.Core.Path.{refl, ◌∙◌}
 use native.Mathlib.Omega.{arith}
 use borrow.Author.Rules.{rules}
-use Rattle.reading.proofs.AllCells.{none_reached, cell_fits_back, cell_added_back, cell_passed, all_reached, reached_long}
+use Rattle.reading.proofs.AllCells.{none_reached, cell_fits_back, cell_added_back, cell_passed, all_reached}
 use Rattle.reading.proofs.Registers.{zero_back}
 use Rattle.std.proofs.Common.{get_or, pos, SFits}
 use Rattle.std.specs.Int.{w64}
-use Prim.Native.Nat.{◌-◌}
 use Rattle.reading.proofs.add_cells.Goals as goal
 use Rattle.reading.proofs.add_cells.Goals.{then-x-ne0, else-x-ne0}
 
@@ -35,8 +34,3 @@ loop-c-preserved c =
 
 pub returns : goal.returns
 returns c = all_reached _ _ _ _ c.requires _ _ c.loop-c.invariant.2 c.loop-c.invariant.0 c.loop-c-test.false
-
-pub shape_of-res : goal.shape_of-res
-shape_of-res c =
-    let h = c.requires in
-    reached_long _ _ _ _ h _ _ c.loop-c.invariant.2 ∙ sym (reached_long _ _ _ _ h _ _ (none_reached _ _ _ _ h))

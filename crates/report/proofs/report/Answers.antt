@@ -6,9 +6,10 @@ use native.Mathlib.Omega.{arith}
 use Rattle.table.specs.Kind.{capacity, width, free_mark}
 use Rattle.bitset.specs.Bits.{full_width}
 use Rattle.report.specs.Report.{no_sketch}
-use Rattle.report.proofs.Telling.{passes, front_long, words_fit, blank_table, reports_none, reports_told}
+use Rattle.report.proofs.Telling.{passes, front_long, words_fit, blank_table, reports_none, reports_told, evidence_long}
 use Rattle.report.proofs.report.Goals as goal
 use Rattle.report.proofs.report.Goals.{After-size_in-n, After-words_for, Else-no_sketch}
+use Rattle.report.proofs.report.Goals.{After-size_in-n, Else-no_sketch}
 
 -- past the test the file may be a sketch
 a_sketch_here : (c : Else-no_sketch) → no_sketch c.args.file.now ≡ false
@@ -57,3 +58,7 @@ returns c =
       reports = reports_told f _ _ sketch (blank_table c.size_in-n.result (capacity * width) fits (omega arith) f c.size_in-n.ensures) c.tell.ensures.told;
       len_lt_room = c.tell.ensures.len_lt_room;
     }
+
+pub tell-requires : goal.tell-requires
+tell-requires c =
+    evidence_long c.size_in-n.result (capacity * width) (few (goal.at.tell-requires c).After-size_in-n) (omega arith) c.words_for.result (capacity * full_width) c.words_for.ensures (omega arith)

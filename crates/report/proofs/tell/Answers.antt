@@ -3,8 +3,9 @@ use mathlib.Core.Path.{◌≡◌, sym, ◌∙◌}
 use lib.ListN.{length}
 use Rattle.calls.specs.declared.Verdict.TheVariants.{Accepted}
 use Rattle.sketch.specs.Read.{read_verdict}
-use Rattle.report.proofs.Telling.{left_valid, left_words}
+use Rattle.report.proofs.Telling.{left_valid, left_words, tells_lines, tells_refusal}
 use Rattle.report.proofs.tell.Goals as goal
+use Rattle.report.proofs.tell.Goals.{In-Accepted}
 use Rattle.report.proofs.tell.Goals.{In-Accepted}
 
 -- the file was accepted
@@ -20,3 +21,18 @@ count_holes-requires c =
       valid = left_valid t f _ told c.read-verdict.ensures.left;
       evidence_len = left_words t f _ told c.read-verdict.ensures.left (length c.args.evidence.now) c.requires;
     }
+
+-- CONV: at After-read-arg: .read in r.read.ensures.left
+pub returns-in-Accepted : goal.returns-in-Accepted
+returns-in-Accepted c =
+    (
+      tells_lines c.args.t.now c.args.file.now _ (accepted_here (goal.at.returns-in-Accepted c).In-Accepted-1) r.read.ensures.left _ c.count_holes.ensures.0,
+      c.count_holes.ensures.1,
+    )
+
+pub returns-in-Refused : goal.returns-in-Refused
+returns-in-Refused c =
+    (
+      tells_refusal c.args.t.now c.args.file.now _ _ (sym c.read-verdict.ensures.answer ∙ c.in-Refused.is) c.refused.ensures.0,
+      c.refused.ensures.1,
+    )

@@ -1,17 +1,16 @@
 -- `weld::rename_as` meets its contract: the word that is compared with c is where c goes. The invariant: the faces below j are sent to
 -- their images, and the rest of the record is as it was. The measure: the places left. Assumes nothing.
 use borrow.Author.Rules.{rules}
-use mathlib.Core.Path.{◌≡◌, sym, ◌∙◌}
+use mathlib.Core.Path.{◌≡◌, sym, ◌∙◌, refl}
 use Prim.Native.Nat.{◌<◌, ◌-◌}
 use native.Mathlib.Omega.{arith}
 use lib.ListN.{get_or-replicate}
 use Rattle.table.specs.Kind.{faces, free_mark, used}
 use Rattle.table.specs.Table.{dim}
-use Rattle.table.proofs.Stores.{faced_more}
+use Rattle.table.proofs.Stores.{faced_more, faced_none}
 use Rattle.weld.specs.Maps.{held_by}
 use Rattle.weld.proofs.Sending.{map_inside}
 use Rattle.weld.proofs.Writing.{record_freed, record_kept, image_is, faces_sent, face_held}
-use Rattle.table.proofs.Places.{used_fits}
 use Rattle.weld.proofs.rename_as.Goals as goal
 use Rattle.weld.proofs.rename_as.Goals.{After-wide, In-loop-j}
 
@@ -45,3 +44,6 @@ pub image-requires : goal.image-requires
 image-requires c =
     let l = c.loop-j in
     face_held _ _ _ c.requires.0 l.t l.j _ (place (goal.at.image-requires c).In-loop-j) l.invariant.2 c.face-f.ensures
+
+pub loop-j-init : goal.loop-j-init
+loop-j-init c = (omega arith, refl, faced_none _ _ _)
