@@ -4,10 +4,11 @@ use mathlib.Core.Path.{◌≡◌, refl, ◌∙◌}
 use mathlib.Core.Bool.{true}
 use Prim.Native.Nat.{◌+◌, ◌*◌, ◌<◌}
 use native.Mathlib.Omega.{arith}
+use borrow.Author.Rules.{rules}
 use Rattle.table.specs.Kind.{capacity}
 use Rattle.complex.specs.Cells.{cells}
 use Rattle.bitset.proofs.LowBit.{bit_gone_less}
-use Rattle.rows.proofs.WordBits.{left_live, one_less, none_left}
+use Rattle.rows.proofs.WordBits.{all_left, left_live, one_less, none_left}
 use Rattle.rows.proofs.add_word.Goals as goal
 use Rattle.rows.proofs.add_word.Goals.{After-lowest-k}
 
@@ -57,3 +58,6 @@ pub returns : goal.returns
 returns c =
     let a = c.args in
     none_left (cells a.t.now) a.w a.word c.loop-v.v _ _ c.loop-v-test.false c.loop-v.invariant.0 c.loop-v.invariant.1 c.loop-v.invariant.2
+
+pub loop-v-init : goal.loop-v-init
+loop-v-init c = (search rules, λ i. (c.type_inv.into i).fits, all_left _ _ _ _)
