@@ -33,7 +33,7 @@ use Rattle.checker.specs.Fault.{FirstBreaksA, FirstBreaksB}
 use Rattle.checker.proofs.Faults.{Fault, fault_named, named_fault}
 use Rattle.checker.proofs.Meeting.{rows_accepted_iff_rules, fault_a, fault_b}
 
-pub lengths_fit_lem : (t ev : List ℕ) → Valid t → length ev ≡ evidence_words (cells t) → lengths_fit t ev ≡ true
+lengths_fit_lem : (t ev : List ℕ) → Valid t → length ev ≡ evidence_words (cells t) → lengths_fit t ev ≡ true
 lengths_fit_lem t ev v long = and_both _ _ (valid_is_sized t v) (eq-eqb (length ev) (evidence_words (cells t)) long)
 
 pub refused_length : (t ev : List ℕ) → lengths_fit t ev ≡ false → check_verdict t ev ≡ Refused refusals.Length

@@ -3,7 +3,7 @@
 use borrow.Author.Rules.{rules}
 use mathlib.Core.Path.{subst, ◌∙◌}
 use Rattle.bitset.specs.Bits.{IsLargestIn, LargestIs}
-use Rattle.reducer.proofs.RowAdditions.{going_first, ends_empty, kept_room, ends_free, falls, goes_on}
+use Rattle.reducer.proofs.RowAdditions.{going_first, largest_asks, ends_empty, kept_room, ends_free, add_asks, falls, goes_on}
 use Rattle.reducer.proofs.finish_row.Goals as goal
 
 pub loop-m-init : goal.loop-m-init
@@ -44,3 +44,17 @@ loop-m-preserved c =
       i.3,
       goes_on i.4 h c.if-a.false c.add_kept.ensures c.add_row.ensures,
     )
+
+pub largest-largest-requires : goal.largest-largest-requires
+largest-largest-requires c = largest_asks c.loop-m.invariant.4
+
+-- the owner is an earlier row, and this row's words lie among the evidence
+pub add_row-requires-clause-a_lt_c : goal.add_row-requires-clause-a_lt_c
+add_row-requires-clause-a_lt_c c =
+    let h : IsLargestIn c.loop-m.b c.in-Cell.m = subst (LargestIs c.loop-m.b) c.in-Cell.is c.largest-largest.ensures in
+    (add_asks c.loop-m.invariant.4 h c.if-a.false).0
+
+pub add_row-requires-clause-w_in_bounds : goal.add_row-requires-clause-w_in_bounds
+add_row-requires-clause-w_in_bounds c =
+    let h : IsLargestIn c.loop-m.b c.in-Cell.m = subst (LargestIs c.loop-m.b) c.in-Cell.is c.largest-largest.ensures in
+    (add_asks c.loop-m.invariant.4 h c.if-a.false).1

@@ -5,7 +5,7 @@ use mathlib.Core.Bool.{true, false}
 use native.Mathlib.Omega.{arith}
 use Rattle.counting.proofs.Cases.{not_true_false}
 use Rattle.complex.specs.Cells.{cells}
-use Rattle.reducer.proofs.Progress.{progress_first, count_fits, progress_free, progress_live}
+use Rattle.reducer.proofs.Progress.{progress_first, progress_ready, count_fits, progress_free, progress_live, progress_ends}
 use Rattle.reducer.proofs.reduce_rows.Goals as goal
 
 pub loop-c-init : goal.loop-c-init
@@ -36,3 +36,9 @@ loop-c-preserved c =
       kept.owner ∙ i.3,
       progress_live i.4 _ c.dim-p.ensures c.if-p-ge-DIMENSIONS.false live c.reduce_row-made.ensures,
     )
+
+pub reduce_row-made-requires-clause-ready : goal.reduce_row-made-requires-clause-ready
+reduce_row-made-requires-clause-ready c = progress_ready c.loop-c.invariant.4 (omega arith)
+
+pub returns : goal.returns
+returns c = progress_ends c.loop-c.invariant.4 (omega arith)

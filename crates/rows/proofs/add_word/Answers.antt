@@ -4,11 +4,11 @@ use mathlib.Core.Path.{◌≡◌, refl, ◌∙◌}
 use mathlib.Core.Bool.{true}
 use Prim.Native.Nat.{◌+◌, ◌*◌, ◌<◌}
 use native.Mathlib.Omega.{arith}
+use borrow.Author.Rules.{rules}
 use Rattle.table.specs.Kind.{capacity}
 use Rattle.complex.specs.Cells.{cells}
 use Rattle.bitset.proofs.LowBit.{bit_gone_less}
-use Rattle.rows.proofs.WordBits.{left_live, one_less, none_left, all_left}
-use borrow.Author.Rules.{rules}
+use Rattle.rows.proofs.WordBits.{all_left, left_live, one_less, none_left}
 use Rattle.rows.proofs.add_word.Goals as goal
 use Rattle.rows.proofs.add_word.Goals.{After-lowest-k}
 

@@ -1,7 +1,7 @@
 -- `lengths_fit` meets its contract: the length of the table decides, then the product. Assumes nothing.
 use mathlib.Core.Path.{sym, ◌∙◌}
 use native.Mathlib.Omega.{arith}
-use Rattle.rows.proofs.Lengths.{product_small, no_table_fits, table_fits}
+use Rattle.rows.proofs.Lengths.{no_table_fits, table_fits, product_small}
 use Rattle.rows.proofs.lengths_fit.Goals as goal
 
 pub overflow_mul-result : goal.overflow_mul-result
@@ -9,11 +9,7 @@ overflow_mul-result c =
     omega (arith, product_small _ _ _ (sym c.fits.ensures ∙ c.if-not-fits.false) c.room-n.ensures c.words_for.ensures)
 
 pub returns-then-not-fits : goal.returns-then-not-fits
-returns-then-not-fits c =
-    let a = c.args in
-    no_table_fits a.t.now a.evidence.now (sym c.fits.ensures ∙ c.if-not-fits.true)
+returns-then-not-fits c = no_table_fits c.args.t.now c.args.evidence.now (sym c.fits.ensures ∙ c.if-not-fits.true)
 
 pub returns : goal.returns
-returns c =
-    let a = c.args in
-    table_fits a.t.now a.evidence.now _ _ (sym c.fits.ensures ∙ c.if-not-fits.false) c.room-n.ensures c.words_for.ensures
+returns c = table_fits c.args.t.now c.args.evidence.now _ _ (sym c.fits.ensures ∙ c.if-not-fits.false) c.room-n.ensures c.words_for.ensures
