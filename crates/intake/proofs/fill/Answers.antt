@@ -6,8 +6,7 @@ use Rattle.intake.specs.Steps.{Gathers, Sweeps}
 use Rattle.intake.proofs.Filling.{gathers_there, sweeps_there, puts_there, fills_no_points, fills_no_facets, fills_all, fills_no_lines, kept_here}
 use Prim.Native.Nat.{ℕ, ◌-◌, ◌<◌}
 use Rattle.intake.proofs.fill.Goals as goal
-use Rattle.intake.proofs.fill.Goals.{After-take_lines-gathered, After-sweep-m}
-use Rattle.intake.proofs.fill.Goals.{After-take_lines-gathered, Else-n-room}
+use Rattle.intake.proofs.fill.Goals.{After-take_lines-gathered, After-sweep-m, Else-n-room}
 
 -- the lines, and the room as it was at first
 gathered :
@@ -47,9 +46,9 @@ returns-then-gathered-room c =
 pub take_lines-gathered-requires : goal.take_lines-gathered-requires
 take_lines-gathered-requires c =
     (
-      omega (arith, c.if-n-room.false, c.room-room.ensures, c.take_points.auto.0),
-      omega (arith, c.if-n-room.false, c.room-room.ensures, c.pre.0),
-      kept_here c.args.t.now _ c.take_points.auto.0 c.take_points.ensures,
-      c.pre.2,
-      c.pre.3,
+      omega (arith, c.if-n-room.false, c.room-room.ensures, c.take_points.auto.t),
+      omega (arith, c.if-n-room.false, c.room-room.ensures, c.requires.0),
+      kept_here c.args.t.now _ c.take_points.auto.t c.take_points.ensures,
+      c.requires.2,
+      c.requires.3,
     )

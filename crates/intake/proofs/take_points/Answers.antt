@@ -1,5 +1,6 @@
 -- `take_points` meets its contract. The invariant: the points below c are taken in. The measure: the points left. Assumes nothing.
 use mathlib.Core.Path.{refl, ◌∙◌}
+use mathlib.Core.List.{[]}
 use native.Mathlib.Omega.{arith}
 use Rattle.intake.proofs.Points.{points_none, points_more, points_all}
 use Prim.Native.Nat.{◌-◌}

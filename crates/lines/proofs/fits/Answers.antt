@@ -1,10 +1,10 @@
 -- `fits` meets its contract. The invariant: the numbers passed fit. The measure: the numbers left. Assumes nothing.
 use borrow.Author.Rules.{rules}
 use mathlib.Core.Path.{sym, ◌∙◌}
-use Prim.Native.Nat.{◌≤◌}
+use Prim.Native.Nat.{◌≤◌, ◌-◌}
 use native.Mathlib.Omega.{arith}
 use lib.ListN.{length}
-use Rattle.partlist.proofs.Indices.{fit_more, too_large, not_once, taken_fits, taken_unfit}
+use Rattle.partlist.proofs.Indices.{fit_more, too_large, not_once, taken_fits, taken_unfit, fit_none}
 use Rattle.lines.proofs.fits.Goals as goal
 use Rattle.lines.proofs.fits.Goals.{Start}
 
@@ -27,3 +27,6 @@ loop-i-preserved c =
 
 pub returns : goal.returns
 returns c = taken_fits _ _ _ (few (goal.at.returns c).Start) c.loop-i.i c.loop-i-test.false c.loop-i.invariant.1
+
+pub loop-i-init : goal.loop-i-init
+loop-i-init c = (omega arith, fit_none _ _)

@@ -5,7 +5,7 @@ use Prim.Native.Nat.{ℕ, ◌≤◌}
 use native.Mathlib.Omega.{arith}
 use lib.ListN.{take}
 use Rattle.lines.specs.Scans.{ReadsLine}
-use Rattle.lines.proofs.Wholes.{opens_told, onto_first, onto_more, line_missing, still_fit, unfit}
+use Rattle.lines.proofs.Wholes.{no_count_told, opens_told, onto_first, onto_more, line_missing, still_fit, unfit}
 use Rattle.lines.proofs.scan_text.Goals as goal
 use Rattle.lines.proofs.scan_text.Goals.{Else-line-eq0}
 
@@ -42,3 +42,6 @@ loop-at-preserved c =
       still_fit _ _ _ l.fit c.fits.result c.if-not-fits.false
           (onto_more _ _ _ _ l.invariant.1 _ _ _ (line (goal.at.loop-at-preserved c).Else-line-eq0) c.fits.ensures),
     )
+
+pub returns-in-Malformed : goal.returns-in-Malformed
+returns-in-Malformed c = no_count_told _ _ c.read_count-first.ensures c.in-Malformed.is

@@ -22,17 +22,17 @@ count_holes-requires c =
       evidence_len = left_words t f _ told c.read-verdict.ensures.left (length c.args.evidence.now) c.requires;
     }
 
--- CONV: at After-read-arg: .read in r.read.ensures.left
 pub returns-in-Accepted : goal.returns-in-Accepted
 returns-in-Accepted c =
-    (
-      tells_lines c.args.t.now c.args.file.now _ (accepted_here (goal.at.returns-in-Accepted c).In-Accepted-1) r.read.ensures.left _ c.count_holes.ensures.0,
-      c.count_holes.ensures.1,
-    )
+    let told = accepted_here (goal.at.returns-in-Accepted c).In-Accepted in
+    record {
+      told = tells_lines c.args.t.now c.args.file.now _ told c.read-verdict.ensures.left _ c.count_holes.ensures.hole_lines;
+      len_lt_room = c.count_holes.ensures.len_lt_room;
+    }
 
 pub returns-in-Refused : goal.returns-in-Refused
 returns-in-Refused c =
-    (
-      tells_refusal c.args.t.now c.args.file.now _ _ (sym c.read-verdict.ensures.answer ∙ c.in-Refused.is) c.refused.ensures.0,
-      c.refused.ensures.1,
-    )
+    record {
+      told = tells_refusal c.args.t.now c.args.file.now _ _ (sym c.read-verdict.ensures.answer ∙ c.in-Refused.is) c.refused.ensures.result_value;
+      len_lt_room = c.refused.ensures.len_lt_room;
+    }
