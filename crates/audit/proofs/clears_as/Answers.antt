@@ -7,8 +7,6 @@ use mathlib.Core.Path.{sym, ◌∙◌}
 use native.Mathlib.Omega.{arith}
 use borrow.Author.Tests.{eqb-true}
 use Rattle.audit.proofs.Clearing.{one_more, all_equal, used_above}
-use Prim.Native.Nat.{◌-◌}
-use Rattle.table.specs.Table.{dim, face}
 use Rattle.audit.proofs.clears_as.Goals as goal
 
 pub loop-j-preserved : goal.loop-j-preserved

@@ -4,7 +4,6 @@ use mathlib.Core.Path.{sym, ◌∙◌}
 use native.Mathlib.Omega.{arith}
 use Rattle.audit.proofs.Empties.{filled_is_emptied}
 use Rattle.audit.proofs.Verdicts.{empty_accepts, empty_refuses}
-use Prim.Native.Nat.{◌-◌}
 use Rattle.audit.proofs.empty.Goals as goal
 
 pub returns : goal.returns

@@ -1,7 +1,6 @@
 -- `add_first` meets its contract. The invariant: the words passed are sums, the others are as they came. The measure: the words left. Assumes nothing.
 use Rattle.bitset.proofs.Runs.{writing_all, writing_none}
 use Rattle.bitset.proofs.Adding.{sum_all}
-use Prim.Native.Nat.{◌-◌}
 use Rattle.bitset.proofs.add_first.Goals as goal
 
 pub returns : goal.returns

@@ -1,7 +1,7 @@
 -- `fits` meets its contract. The invariant: the numbers passed fit. The measure: the numbers left. Assumes nothing.
 use borrow.Author.Rules.{rules}
 use mathlib.Core.Path.{sym, ◌∙◌}
-use Prim.Native.Nat.{◌≤◌, ◌-◌}
+use Prim.Native.Nat.{◌≤◌}
 use native.Mathlib.Omega.{arith}
 use lib.ListN.{length}
 use Rattle.partlist.proofs.Indices.{fit_more, too_large, not_once, taken_fits, taken_unfit, fit_none}

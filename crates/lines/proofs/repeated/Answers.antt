@@ -1,6 +1,5 @@
 -- `repeated` meets its contract. The invariant: none of the numbers passed is number i. The measure: the places left. Assumes nothing.
 use Rattle.partlist.proofs.Indices.{repeats, repeats_none, different_more, different_none}
-use Prim.Native.Nat.{◌-◌}
 use native.Mathlib.Omega.{arith}
 use Rattle.lines.proofs.repeated.Goals as goal
 

@@ -1,10 +1,8 @@
 -- `merge::rename` meets its contract: the dimension is not the number that it is compared with, so it stays. The invariant: the words
 -- below l are the record's faces, sent on. The measure: the places left. Assumes nothing.
 use mathlib.Core.Path.{sym, ◌∙◌}
-use Prim.Native.Nat.{◌-◌}
 use native.Mathlib.Omega.{arith}
 use Rattle.table.proofs.Stores.{stored_alike}
-use Rattle.merge.specs.Writing.{sent}
 use Rattle.merge.proofs.Passes.{sent_stays}
 use Rattle.merge.proofs.rename.Goals as goal
 

@@ -1,7 +1,6 @@
 -- `reader::take_bodies` meets its contract. The invariant: every body below p is taken in, and its numbers are in order. The measure:
 -- the bodies left. Assumes nothing.
 use Rattle.reader.proofs.Bodies.{bodies_end, taken_none}
-use Prim.Native.Nat.{◌-◌}
 use borrow.Author.Rules.{rules}
 use Rattle.reader.proofs.take_bodies.Goals as goal
 

@@ -5,7 +5,6 @@ use mathlib.Core.Path.{refl, sym, subst, ◌∙◌, ◌≡◌, ap}
 use native.Mathlib.Omega.{arith}
 use Rattle.weld.specs.Maps.{Maps}
 use Rattle.weld.proofs.Passing.{places_none, places_more, face_inside, other_inside}
-use Prim.Native.Nat.{◌-◌}
 use Rattle.table.specs.Kind.{used as used_of}
 use Rattle.table.specs.Table.{dim}
 use Rattle.weld.proofs.join_places.Goals as goal

@@ -2,7 +2,7 @@
 -- their images, and the rest of the record is as it was. The measure: the places left. Assumes nothing.
 use borrow.Author.Rules.{rules}
 use mathlib.Core.Path.{◌≡◌, sym, ◌∙◌, refl}
-use Prim.Native.Nat.{◌<◌, ◌-◌}
+use Prim.Native.Nat.{◌<◌}
 use native.Mathlib.Omega.{arith}
 use lib.ListN.{get_or-replicate}
 use Rattle.table.specs.Kind.{faces, free_mark, used}

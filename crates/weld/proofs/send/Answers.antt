@@ -1,5 +1,4 @@
 -- `weld::send` meets its contract. The invariant: the words below c are sent on. The measure: the words left. Assumes nothing.
-use Prim.Native.Nat.{◌-◌}
 use native.Mathlib.Omega.{arith}
 use Rattle.weld.proofs.Sending.{sent_all, sent_more, sent_starts}
 use borrow.Author.Rules.{rules}

@@ -4,7 +4,6 @@ use native.Mathlib.Omega.{arith}
 use Rattle.table.specs.Kind.{dimensions}
 use Rattle.writer.specs.Put.{in_array}
 use Rattle.writer.proofs.Starts.{start_more, starts_first, starts_more, starts_all}
-use Prim.Native.Nat.{◌-◌}
 use Rattle.writer.proofs.body_starts.Goals as goal
 
 pub loop-p-init : goal.loop-p-init

@@ -1,6 +1,5 @@
 -- `add_words` meets its contract. The invariant: the words passed are sums, the others are as they came.
 -- The measure: the words left. Assumes nothing.
-use Prim.Native.Nat.{◌-◌}
 use Rattle.bitset.proofs.Adding.{word_added}
 use Rattle.bitset.proofs.Runs.{writing_none}
 use Rattle.bitset.proofs.matrix.add_words.Goals as goal

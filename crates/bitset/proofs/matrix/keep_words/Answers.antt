@@ -1,5 +1,4 @@
 -- `keep_words` meets its contract. The invariant: the words passed are copied. The measure: the words left. Assumes nothing.
-use Prim.Native.Nat.{◌-◌}
 use Rattle.bitset.proofs.Runs.{writing_none}
 use Rattle.bitset.proofs.matrix.keep_words.Goals as goal
 

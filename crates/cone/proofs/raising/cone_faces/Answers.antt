@@ -7,7 +7,6 @@ use Rattle.table.specs.Kind.{used}
 use Rattle.table.specs.Table.{dim, face}
 use Rattle.table.proofs.Records.{faces_at}
 use Rattle.cone.proofs.Sides.{sided_more, sided_done, few_sides, sided_none, side_entry}
-use Prim.Native.Nat.{◌-◌}
 use Rattle.cone.proofs.raising.cone_faces.Goals as goal
 
 pub loop-j-preserved : goal.loop-j-preserved

@@ -1,6 +1,5 @@
 -- `table::Table::put_faces` meets its contract. The invariant: the faces below j of record c are written, every other word is the old one.
 -- The measure: the places left. Assumes nothing.
-use Prim.Native.Nat.{◌-◌}
 use Rattle.table.proofs.Stores.{faced_all, faced_none}
 use borrow.Author.Rules.{rules}
 use Rattle.table.proofs.Table.put_faces.Goals as goal
