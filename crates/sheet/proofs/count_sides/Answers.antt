@@ -7,8 +7,7 @@ use Rattle.sheet.proofs.Counters.{counted_all}
 use Rattle.sheet.proofs.count_sides.Goals as goal
 
 pub returns : goal.returns
-returns c =
-    (
-      λ _. counted_all _ _ _ _ _ c.room-n.ensures c.loop-c.invariant.0 c.loop-c-test.false c.loop-c.invariant.2,
-      λ e. absurd (false≢true (sym e)),
-    )
+returns c = (
+  λ _. counted_all _ _ _ _ _ c.room-n.ensures c.loop-c.invariant.0 c.loop-c-test.false c.loop-c.invariant.2,
+  λ e. absurd (false≢true (sym e)),
+)
