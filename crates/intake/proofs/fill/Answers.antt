@@ -44,11 +44,10 @@ returns-then-gathered-room c =
     fills_no_lines _ _ _ _ _ (gathered (goal.at.returns-then-gathered-room c).After-take_lines-gathered) (above (goal.at.returns-then-gathered-room c).Else-n-room c.if-gathered-room.true)
 
 pub take_lines-gathered-requires : goal.take_lines-gathered-requires
-take_lines-gathered-requires c =
-    (
-      omega (arith, c.if-n-room.false, c.room-room.ensures, c.take_points.auto.t),
-      omega (arith, c.if-n-room.false, c.room-room.ensures, c.requires.0),
-      kept_here c.args.t.now _ c.take_points.auto.t c.take_points.ensures,
-      c.requires.2,
-      c.requires.3,
-    )
+take_lines-gathered-requires c = (
+  omega (arith, c.if-n-room.false, c.room-room.ensures, c.take_points.auto.t),
+  omega (arith, c.if-n-room.false, c.room-room.ensures, c.requires.0),
+  kept_here c.args.t.now _ c.take_points.auto.t c.take_points.ensures,
+  c.requires.2,
+  c.requires.3,
+)

@@ -1,6 +1,5 @@
 -- `put_file` meets its contract: a valid table's file has room, so the writer accepts. Assumes nothing.
 use Rattle.listing.proofs.Fronts.{never_refused, file_front}
-use Prim.Native.Nat.{◌-◌}
 use Rattle.listing.proofs.put_file.Goals as goal
 
 pub returns-in-NotWritten : goal.returns-in-NotWritten

@@ -2,7 +2,6 @@
 use Rattle.sketch.specs.Form.{two_at}
 use Rattle.sketch.proofs.two_at.Goals as goal
 
--- CONV: at After-number_of: .number_of in c.number_of_lem.ensures
 pub returns : goal.returns
 unfolding two_at
 returns c = c.number_of.ensures
