@@ -21,8 +21,8 @@ CLAUSE = re.compile(r"\s*(?:pub )?(?:ghost|requires|ensures|invariant)\b")
 
 def lone_laws():
     """Public laws of proofs/ that no promise cites and that no other file names: a law that its own file uses is private to it, and
-    one that nothing uses goes, or docs/PORT.md lists it. (The fields of a record are no laws;
-    and what a public ruleset lists goes out with it.) For each its file, its name and what is wrong."""
+    one that nothing uses goes. (The fields of a record are no laws;
+    and what a public ruleset lists goes out with it.)"""
     texts = {}
     for path in glob.glob("crates/**/*.antt", recursive=True) + glob.glob("crates/**/*.rt", recursive=True):
         if not re.match(r"crates/[^/]+/out/", path):
@@ -52,19 +52,9 @@ def lone_laws():
             if any(not own.match(other) and re.match(r"\s*pub ", other) for at, other in named[name]):
                 continue
             if any(not own.match(other) for at, other in named[name]):
-                yield path, name, "%s: %s is public, and only its own file names it" % (path, name)
+                yield "%s: %s is public, and only its own file names it" % (path, name)
             else:
-                yield path, name, "%s: nothing cites %s" % (path, name)
-
-
-def laws_not_kept():
-    """Lone laws but for those that docs/PORT.md lists as kept, and what it lists that is no lone law."""
-    page = open("docs/PORT.md", encoding="utf-8").read() if os.path.exists("docs/PORT.md") else ""
-    part = page.split("\n## Laws that nothing cites\n")[1].split("\n## ")[0] if "\n## Laws that nothing cites\n" in page else ""
-    kept = set(re.findall(r"`(crates/[^`:]+):([^`]+)`", part))
-    lone = {(path, name): line for path, name, line in lone_laws()}
-    yield from (line for law, line in lone.items() if law not in kept)
-    yield from ("docs/PORT.md: %s:%s is listed as cited by nothing, and is no such law" % law for law in sorted(kept - set(lone)))
+                yield "%s: nothing cites %s" % (path, name)
 
 
 def edit_names():
@@ -99,7 +89,7 @@ def crate_map():
 
 def main():
     os.chdir(TOP)
-    wrong = list(laws_not_kept()) + list(edit_names()) + list(bare_numbers()) + list(crate_map())
+    wrong = list(lone_laws()) + list(edit_names()) + list(bare_numbers()) + list(crate_map())
     for line in wrong:
         print("house: " + line)
     print("house: %d differences" % len(wrong))
