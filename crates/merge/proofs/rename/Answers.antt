@@ -6,7 +6,6 @@ use Rattle.table.proofs.Stores.{stored_alike}
 use Rattle.merge.proofs.Passes.{sent_stays}
 use Rattle.merge.proofs.rename.Goals as goal
 
--- CONV: at After-dim: .sent in c.sent-p.ensures
 pub returns : goal.returns
 returns c =
     let read = c.dim.ensures in
