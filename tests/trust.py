@@ -25,7 +25,7 @@ def must_believe(path):
 # An import may go over several lines, and bring in one name without braces.
 USE = re.compile(r"^(?:pub )?(?:ghost )?use Rattle\.(\w+)\.(specs|proofs)\.([\w.+-]+?)\.(?:\{([^}]*)\}|([^\s.{};]+(?: as [^\s.{};]+)?));?$", re.M)
 # A public function up to its body: the name, the text between. One with a `requires` is a part of a proved caller and no public call.
-CALL = re.compile(r"^\s*pub (?:extern \"C\" )?fn (\w+)\((.*?)\n\s*\{\n", re.M | re.S)
+CALL = re.compile(r"^\s*pub (?:extern \"C\" )?fn (\w+)(?:<[^>]*>)?\((.*?)\n\s*\{\n", re.M | re.S)
 # A clause, with a name or without one; it may go over several lines, up to the brace that closes it or to the next clause.
 ENSURES = re.compile(r"^\s*ensures\b[^{]*\{(.*?)\}[ \t]*(?=\n\s*(?:ensures|requires)\b|\Z)", re.M | re.S)
 REQUIRES = re.compile(r"^\s*requires\b", re.M)

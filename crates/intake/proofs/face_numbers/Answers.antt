@@ -1,6 +1,6 @@
 -- `face_numbers` meets its contract. The invariant: the faces at the places below j are found. The measure: the places left.
 -- Assumes nothing.
-use Prim.Native.Nat.{◌<◌, ◌-◌}
+use Prim.Native.Nat.{◌<◌}
 use native.Mathlib.Omega.{arith}
 use Rattle.table.specs.Kind.{faces, used}
 use Rattle.intake.proofs.Faces.{faces_more, faces_all, faces_none}

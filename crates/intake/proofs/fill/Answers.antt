@@ -4,7 +4,7 @@ use native.Mathlib.Omega.{arith}
 use Rattle.table.specs.Table.{cells_of}
 use Rattle.intake.specs.Steps.{Gathers, Sweeps}
 use Rattle.intake.proofs.Filling.{gathers_there, sweeps_there, puts_there, fills_no_points, fills_no_facets, fills_all, fills_no_lines, kept_here}
-use Prim.Native.Nat.{ℕ, ◌-◌, ◌<◌}
+use Prim.Native.Nat.{ℕ, ◌<◌}
 use Rattle.intake.proofs.fill.Goals as goal
 use Rattle.intake.proofs.fill.Goals.{After-take_lines-gathered, After-sweep-m, Else-n-room}
 

@@ -1,7 +1,7 @@
 -- `take_facets` meets its contract. The invariant: the facets at the places below j are taken in. The measure: the places left.
 -- Assumes nothing.
 use mathlib.Core.Path.{◌∙◌, refl}
-use Prim.Native.Nat.{◌<◌, ◌-◌}
+use Prim.Native.Nat.{◌<◌}
 use native.Mathlib.Omega.{arith}
 use Rattle.table.specs.Kind.{used}
 use Rattle.intake.proofs.Facets.{facets_more, facets_full, facets_all, facets_low, facets_none}

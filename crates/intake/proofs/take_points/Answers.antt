@@ -3,7 +3,6 @@ use mathlib.Core.Path.{refl, ◌∙◌}
 use mathlib.Core.List.{[]}
 use native.Mathlib.Omega.{arith}
 use Rattle.intake.proofs.Points.{points_none, points_more, points_all}
-use Prim.Native.Nat.{◌-◌}
 use Rattle.intake.proofs.take_points.Goals as goal
 
 pub loop-c-init : goal.loop-c-init

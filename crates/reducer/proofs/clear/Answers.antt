@@ -1,7 +1,6 @@
 -- `clear` meets its contract. The invariant: the words passed are 0. The measure: the words left. Assumes nothing.
 use borrow.Author.Rules.{rules}
 use mathlib.Core.Path.{refl}
-use Prim.Native.Nat.{◌-◌}
 use native.Mathlib.Omega.{arith}
 use lib.ListN.{length-set}
 use Rattle.bitset.proofs.Runs.{run_more, run_none}

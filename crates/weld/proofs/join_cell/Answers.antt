@@ -6,7 +6,7 @@ use Rattle.weld.proofs.Passing.{cell_passed, cell_still, cell_joined, image_ther
 use Rattle.weld.proofs.join_cell.Goals as goal
 use Rattle.weld.proofs.join_cell.Goals.{After-wide-d}
 
--- past the first test the record is a q_cell
+-- past the first test the record is a q-cell
 q_cell : (c : After-wide-d) → dim c.args.t.now c.args.c ≡ c.args.q
 q_cell c = sym c.dim.ensures ∙ c.if-dim-q.false
 
