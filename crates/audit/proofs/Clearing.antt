@@ -1,18 +1,20 @@
 -- The quick pass over one cell: where no comparison differed, the cell breaks nothing.
 -- What carries it: an exclusive or that is 0 has equal sides, and an or that is 0 has gathered none but such; the comparisons are
 -- then the three tests of a sound cell, read off the faces by value. Assumes nothing.
-use mathlib.Core.Path.{◌≡◌, sym, ap, ◌∙◌}
+use mathlib.Core.Path.{◌≡◌, sym, ap, subst, ◌∙◌}
 use mathlib.Core.List.{List}
 use mathlib.Core.Logic.{◌⊎◌}
 use Prim.Native.Nat.{ℕ, ◌+◌, ◌-◌, ◌≤◌, ◌<◌}
 use native.Mathlib.Omega.{arith}
 use borrow.Author.Count.{below_more}
 use lib.Bits.{bit_or, bit_xor, and_le_l, and_le_r, or_add_and, xor_add_and}
-use lib.ListN.{get_or}
+use lib.ListN.{length, get_or, take, drop}
+use Rattle.std.proofs.lemmas.List.{get_or-take, get_or-drop, length-drop, length-take-le}
 use Rattle.table.specs.Kind.{top, faces, free_mark}
 use Rattle.table.specs.Table.{dim, face}
 use Rattle.audit.specs.Audit.{cell_breach}
-use Rattle.audit.specs.declared.Found.TheVariants.{Sound}
+use Rattle.std.specs.declared.option.Option.TheVariants.{None}
+use Rattle.table.proofs.Slices.{seven, taken}
 use Rattle.table.proofs.Places.{used_says}
 use Rattle.audit.proofs.Records.{all_unused, Cell, used_here, face_at_lem, law_here}
 use Rattle.audit.proofs.Valid.{face_says, law_says, passes_cell}
@@ -38,8 +40,22 @@ Agrees t fs j = (l : ℕ) → l < j → face t (get_or fs j 0) l ≡ face t (get
 
 module _ {t : List ℕ} {n c p u m : ℕ} {fs : List ℕ} (h : Cell t n c p u m fs) where
   -- a cell that uses a place has dimension 1 or more
-  pub used_above : (j : ℕ) → j < u → 1 ≤ p
+  used_above : (j : ℕ) → j < u → 1 ≤ p
   used_above j l = (used_says p j (omega (arith, h.places_used))).0
+
+  -- what holds of each of the first u faces, and of each of the others, as slices
+  pub first_ones : (P : ℕ → Type 0) (i : ℕ) → length (take u fs) ≤ i → ((k : ℕ) → k < i → P (get_or (take u fs) k 0)) → (j : ℕ) → j < u → P (get_or fs j 0)
+  first_ones P i all each j l =
+      let many = taken t c h.by_value h.fits in
+      subst P (get_or-take u fs j 0 l) (each j (omega (arith, many, all)))
+
+  pub last_ones : (P : ℕ → Type 0) (i : ℕ) → length (take (faces - u) (drop u fs)) ≤ i → ((k : ℕ) → k < i → P (get_or (take (faces - u) (drop u fs)) k 0)) → (j : ℕ) → j < faces → u ≤ j → P (get_or fs j 0)
+  last_ones P i all each j l g =
+      let many = length-take-le (faces - u) (drop u fs) (omega (arith, length-drop u fs, seven t c h.by_value)) in
+      let there : u + (j - u) ≡ j = omega (arith, g) in
+      let inside : j - u < faces - u = omega (arith, l, g) in
+      subst (λ k. P (get_or fs k 0)) there
+      (subst P (get_or-take (faces - u) (drop u fs) (j - u) 0 inside ∙ get_or-drop u fs (j - u) 0) (each (j - u) (omega (arith, many, all, inside))))
 
   -- every comparison was equal, so the cell is sound
   pub all_equal :
@@ -48,7 +64,7 @@ module _ {t : List ℕ} {n c p u m : ℕ} {fs : List ℕ} (h : Cell t n c p u m 
       → ((j : ℕ) → j < u → dim t (get_or fs j 0) ≡ p - 1)
       → ((j : ℕ) → j < m → Agrees t fs j)
       → ((j : ℕ) → j < faces → u ≤ j → get_or fs j 0 ≡ free_mark)
-      → cell_breach t c ≡ Sound
+      → cell_breach t c ≡ None
   all_equal kind inside below law unused =
       passes_cell t c
       (record {

@@ -11,8 +11,8 @@ use Rattle.counting.proofs.Dictionary.{before_same_after}
 use Rattle.calls.specs.declared.Breach.{Breach}
 use Rattle.calls.specs.declared.Breach.TheVariants.{Record, Face, Law}
 use Rattle.table.specs.Table.{cells_of}
-use Rattle.audit.specs.declared.Found.{Found}
-use Rattle.audit.specs.declared.Found.TheVariants.{Sound, Broken}
+use Rattle.std.specs.declared.option.Option.{Option}
+use Rattle.std.specs.declared.option.Option.TheVariants.{None, Some}
 use Rattle.audit.specs.Audit.{cell_breach, first_breach}
 use Rattle.audit.specs.First.{IsBreach, key, IsFirst}
 use Rattle.audit.specs.First.IsBreach.{no_kind, stray, no_face, no_law}
@@ -65,7 +65,7 @@ module _ (t : List ℕ) (c : ℕ) (clean : (k : ℕ) → k < c → SoundCell t k
       law_fails t d i m h (rw (q, x) (last m y))
   none_lower b (Law d i m) (at_law j l r each u k e before last) h (inr (q, inr (w, inr (x, inr (y, n))))) = n
 
-found_is_first : (t : List ℕ) (b : Breach) → first_breach t ≡ Broken b → IsFirst t b
+found_is_first : (t : List ℕ) (b : Breach) → first_breach t ≡ Some b → IsFirst t b
 unfolding first_breach
 found_is_first t b e =
     let s = scan_stops (cell_breach t) (cells_of t) b e in
@@ -100,17 +100,17 @@ breach_inside t b (stray i s) = i
 breach_inside t b (no_face v h k) = v.inside
 breach_inside t b (no_law v h k m i i' n) = v.inside
 
-pub none_where_sound : (t : List ℕ) (b : Breach) → first_breach t ≡ Sound → IsBreach t b → ⊥
+pub none_where_sound : (t : List ℕ) (b : Breach) → first_breach t ≡ None → IsBreach t b → ⊥
 unfolding first_breach
 none_where_sound t b e h =
     passed_none t b h (passed_cell t (cell_of b) (scan_each (cell_breach t) (cells_of t) e (cell_of b) (breach_inside t b h)))
 
-first_is_found : (t : List ℕ) (b : Breach) → IsFirst t b → first_breach t ≡ Broken b
+first_is_found : (t : List ℕ) (b : Breach) → IsFirst t b → first_breach t ≡ Some b
 first_is_found t b f = go (first_breach t) refl
   where
-    go : (x : Found) → first_breach t ≡ x → first_breach t ≡ Broken b
-    go Sound e = absurd (none_where_sound t b e f.breach)
-    go (Broken a) e = e ∙ ap Broken (one_first t a b (found_is_first t a e) f)
+    go : (x : Option Breach) → first_breach t ≡ x → first_breach t ≡ Some b
+    go None e = absurd (none_where_sound t b e f.breach)
+    go (Some a) e = e ∙ ap Some (one_first t a b (found_is_first t a e) f)
 
-pub found_iff_first : (t : List ℕ) (b : Breach) → (first_breach t ≡ Broken b) ↔ IsFirst t b
+pub found_iff_first : (t : List ℕ) (b : Breach) → (first_breach t ≡ Some b) ↔ IsFirst t b
 found_iff_first t b = (found_is_first t b, first_is_found t b)

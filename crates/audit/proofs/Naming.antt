@@ -16,13 +16,13 @@ use Rattle.calls.specs.Packed.{BreachFits, WordFits}
 use Rattle.calls.specs.declared.Breach.{Breach}
 use Rattle.calls.specs.declared.Refusal.{Refusal}
 use Rattle.calls.specs.declared.Refusal.TheVariants.{Length, Invalid}
-use Rattle.calls.specs.declared.Verdict.TheVariants.{Refused}
+use Rattle.std.specs.declared.result.Result.TheVariants.{Err}
+use Rattle.std.specs.declared.option.Option.TheVariants.{None, Some}
 use Rattle.calls.proofs.Givens.{Each, refused_has, first_or_later}
 use Rattle.table.specs.Table.{dim, Sized, Valid, sized, on_length, on_lengths}
 use Rattle.table.proofs.Sizes.{sized_is_sized}
 use Rattle.table.proofs.Places.{used_says}
-use Rattle.audit.specs.declared.Found.{Found}
-use Rattle.audit.specs.declared.Found.TheVariants.{Sound, Broken}
+use Rattle.std.specs.declared.option.Option.{Option}
 use Rattle.audit.specs.Audit.{first_breach, breach_in, is_sound, sound, invalid, on_validity, audit_grounds, grounds, grounds_with}
 use Rattle.audit.specs.First.{IsBreach, IsFirst, NamesFirst, Tells}
 use Rattle.audit.specs.First.IsBreach.{no_kind, stray, no_face, no_law}
@@ -36,10 +36,10 @@ pub unsound_names_first : (t : List ℕ) → sound t ≡ false → NamesFirst t 
 unfolding sound
 unsound_names_first t e = go (first_breach t) refl
   where
-    go : (x : Found) → first_breach t ≡ x → NamesFirst t (invalid t)
-    go Sound f = absurd (false≢true (sym e ∙ ap is_sound f))
-    go (Broken b) f =
-        record { breach = b; named = ap (λ (x : Found). Invalid (breach_in x)) f; first = (found_iff_first t b).0 f }
+    go : (x : Option Breach) → first_breach t ≡ x → NamesFirst t (invalid t)
+    go None f = absurd (false≢true (sym e ∙ ap is_sound f))
+    go (Some b) f =
+        record { breach = b; named = ap (λ (x : Option Breach). Invalid (breach_in x)) f; first = (found_iff_first t b).0 f }
 
 -- the breach of a table has room in the word
 breach_fits : (t : List ℕ) (b : Breach) → Sized t → IsBreach t b → BreachFits b
@@ -54,7 +54,7 @@ pub named_fits : (t : List ℕ) (r : Refusal) → sized t ≡ true → NamesFirs
 named_fits t r s n =
     subst WordFits (sym n.named) (breach_fits t n.breach (sized_is_sized t s) n.first.breach)
 
-sound_found : (t : List ℕ) → sound t ≡ true → first_breach t ≡ Sound
+sound_found : (t : List ℕ) → sound t ≡ true → first_breach t ≡ None
 unfolding sound
 sound_found t e = sound_true (first_breach t) e
 
@@ -69,9 +69,9 @@ fitting t fit e = and_left (sized t) fit (not-false (sized t && fit) e)
 abbrev pub Own : Refusal → Type 0
 Own x = (2 < number_of x) × WordFits x
 
-module _ (t : List ℕ) (g : Ground) (own : List Ground) (length : g.refusal ≡ Length) (fit : g.applies ≡ false → sized t ≡ true) (r : Refusal) (e : verdict (g ∷ on_validity t ∷ own) ≡ Refused r) where
+module _ (t : List ℕ) (g : Ground) (own : List Ground) (length : g.refusal ≡ Length) (fit : g.applies ≡ false → sized t ≡ true) (r : Refusal) (e : verdict (g ∷ on_validity t ∷ own) ≡ Err r) where
   -- why the call refuses: its lengths, its table, or a ground of its own
-  refused_for : (r ≡ Length) ⊎ (((sized t ≡ true) × NamesFirst t r) ⊎ (verdict own ≡ Refused r))
+  refused_for : (r ≡ Length) ⊎ (((sized t ≡ true) × NamesFirst t r) ⊎ (verdict own ≡ Err r))
   refused_for =
       ⊎_elim
       (λ h. inl (sym h.1 ∙ length))
@@ -91,14 +91,14 @@ module _ (t : List ℕ) (g : Ground) (own : List Ground) (length : g.refusal ≡
       refused_for
 
 -- The same for a call that is lent a table alone, and for one that is lent other buffers too.
-pub tells_alone : (t : List ℕ) (own : List Ground) (r : Refusal) → Each Own own → verdict (grounds t own) ≡ Refused r → Tells t r
+pub tells_alone : (t : List ℕ) (own : List Ground) (r : Refusal) → Each Own own → verdict (grounds t own) ≡ Err r → Tells t r
 tells_alone t own r each e = tells t (on_length t) own refl (not-false (sized t)) r e each
 
-pub tells_with : (t : List ℕ) (fit : Bool) (own : List Ground) (r : Refusal) → Each Own own → verdict (grounds_with t fit own) ≡ Refused r → Tells t r
+pub tells_with : (t : List ℕ) (fit : Bool) (own : List Ground) (r : Refusal) → Each Own own → verdict (grounds_with t fit own) ≡ Err r → Tells t r
 tells_with t fit own r each e = tells t (on_lengths t fit) own refl (fitting t fit) r e each
 
 -- The audit refuses with the breach b exactly where b is the first one of a table of the right length,
-breach_of : (t : List ℕ) (b : Breach) → verdict (audit_grounds t) ≡ Refused (Invalid b) → (sized t ≡ true) × IsFirst t b
+breach_of : (t : List ℕ) (b : Breach) → verdict (audit_grounds t) ≡ Err (Invalid b) → (sized t ≡ true) × IsFirst t b
 breach_of t b e =
     ⊎_elim
     (λ h. let z : ◌≡◌ {A = ℕ} 2 1 = ap number_of h in absurd (omega arith))
@@ -107,7 +107,7 @@ breach_of t b e =
     (λ k. let z : ◌≡◌ {A = ℕ} 0 1 = cc in absurd (omega arith)) h)
     (refused_for t (on_length t) [] refl (not-false (sized t)) (Invalid b) e)
 
-pub audit_names_first : (t : List ℕ) (b : Breach) → (verdict (audit_grounds t) ≡ Refused (Invalid b)) ↔ ((sized t ≡ true) × IsFirst t b)
+pub audit_names_first : (t : List ℕ) (b : Breach) → (verdict (audit_grounds t) ≡ Err (Invalid b)) ↔ ((sized t ≡ true) × IsFirst t b)
 audit_names_first t b = (
   breach_of t b,
   λ h. sym (audit_refuses_invalid t b h.0 ((found_iff_first t b).1 h.1)),

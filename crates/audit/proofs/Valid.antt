@@ -14,10 +14,9 @@ use Rattle.table.specs.Table.{cells_of, dim, face, Live, Valid, sized}
 use Rattle.counting.specs.Counting.{all}
 use Rattle.audit.specs.Audit.{scan, or_else, is_sound, record_sound, face_sound, law_sound, law_places, record_breach, face_breach, law_breach, cell_breach, first_breach, sound, audit_grounds}
 use Rattle.calls.specs.Calls.{verdict}
-use Rattle.audit.specs.declared.Found.{Found}
-use Rattle.audit.specs.declared.Found.TheVariants.{Sound, Broken}
+use Rattle.std.specs.declared.option.Option.{Option}
+use Rattle.calls.specs.declared.Breach.{Breach}
 use Rattle.calls.specs.declared.Breach.TheVariants.{Record, Face, Law}
-use Rattle.calls.specs.declared.Verdict.TheVariants.{Accepted}
 use Rattle.calls.proofs.Grounds.{accepted_none_applies}
 use Rattle.counting.proofs.Cases.{and_left, and_right, and_both}
 use Rattle.counting.proofs.Tests.{or_else_lem, all_true, all_says}
@@ -25,6 +24,9 @@ use Rattle.audit.proofs.Scans.{or_else_left, or_else_right, or_else_both, sound_
 use Rattle.table.proofs.Sizes.{sized_is_sized, sized_says}
 use Rattle.table.proofs.Places.{used_is, used_says}
 use Rattle.audit.proofs.Places.{law_places_is, law_places_says}
+use Rattle.std.specs.declared.result.Result.TheVariants.{Ok}
+use Rattle.std.specs.declared.option.Option.TheVariants.{None, Some}
+use Prim.{tt}
 
 -- What the three tests of a cell say, and back.
 
@@ -111,32 +113,32 @@ pub record SoundCell (t : List ℕ) (c : ℕ) : Type 0 where
   pub faces_hold : (j : ℕ) → j < used (dim t c) → face_sound t c j ≡ true
   pub law_holds : (j l : ℕ) → j < law_places (dim t c) → l < j → law_sound t c j l ≡ true
 
-abbrev pub law_scan : List ℕ → ℕ → ℕ → Found
+abbrev pub law_scan : List ℕ → ℕ → ℕ → Option Breach
 law_scan t c j = scan (law_breach t c j) j
 
-pub passed_cell : (t : List ℕ) (c : ℕ) → cell_breach t c ≡ Sound → SoundCell t c
+pub passed_cell : (t : List ℕ) (c : ℕ) → cell_breach t c ≡ None → SoundCell t c
 unfolding cell_breach record_breach face_breach law_breach
 passed_cell t c e =
-    let places : Found = scan (face_breach t c) (used (dim t c)) in
-    let pairs : Found = scan (law_scan t c) (law_places (dim t c)) in
+    let places : Option Breach = scan (face_breach t c) (used (dim t c)) in
+    let pairs : Option Breach = scan (law_scan t c) (law_places (dim t c)) in
     let later = or_else_right (record_breach t c) (or_else places pairs) e in
     record {
-      record_holds = picked_sound (record_sound t c) (Broken (Record c)) refl (or_else_left (record_breach t c) (or_else places pairs) e);
-      faces_hold = λ j h. picked_sound (face_sound t c j) (Broken (Face c j)) refl (scan_each (face_breach t c) (used (dim t c)) (or_else_left places pairs later) j h);
-      law_holds = λ j l h k. picked_sound (law_sound t c j l) (Broken (Law c j l)) refl (scan_each (law_breach t c j) j (scan_each (law_scan t c) (law_places (dim t c)) (or_else_right places pairs later) j h) l k);
+      record_holds = picked_sound (record_sound t c) (Some (Record c)) refl (or_else_left (record_breach t c) (or_else places pairs) e);
+      faces_hold = λ j h. picked_sound (face_sound t c j) (Some (Face c j)) refl (scan_each (face_breach t c) (used (dim t c)) (or_else_left places pairs later) j h);
+      law_holds = λ j l h k. picked_sound (law_sound t c j l) (Some (Law c j l)) refl (scan_each (law_breach t c j) j (scan_each (law_scan t c) (law_places (dim t c)) (or_else_right places pairs later) j h) l k);
     }
 
-pub passes_cell : (t : List ℕ) (c : ℕ) → SoundCell t c → cell_breach t c ≡ Sound
+pub passes_cell : (t : List ℕ) (c : ℕ) → SoundCell t c → cell_breach t c ≡ None
 unfolding cell_breach record_breach face_breach law_breach
 passes_cell t c s =
-    let places : Found = scan (face_breach t c) (used (dim t c)) in
-    let pairs : Found = scan (law_scan t c) (law_places (dim t c)) in
+    let places : Option Breach = scan (face_breach t c) (used (dim t c)) in
+    let pairs : Option Breach = scan (law_scan t c) (law_places (dim t c)) in
     or_else_both (record_breach t c) (or_else places pairs)
-    (picks_sound (record_sound t c) (Broken (Record c)) s.record_holds)
+    (picks_sound (record_sound t c) (Some (Record c)) s.record_holds)
     (or_else_both places pairs
-    (scan_none (face_breach t c) (used (dim t c)) (λ j h. picks_sound (face_sound t c j) (Broken (Face c j)) (s.faces_hold j h)))
+    (scan_none (face_breach t c) (used (dim t c)) (λ j h. picks_sound (face_sound t c j) (Some (Face c j)) (s.faces_hold j h)))
     (scan_none (law_scan t c) (law_places (dim t c))
-    (λ j h. scan_none (law_breach t c j) j (λ l k. picks_sound (law_sound t c j l) (Broken (Law c j l)) (s.law_holds j l h k)))))
+    (λ j h. scan_none (law_breach t c j) j (λ l k. picks_sound (law_sound t c j l) (Some (Law c j l)) (s.law_holds j l h k)))))
 
 -- The search finds nothing exactly where every cell passes.
 sound_cells : (t : List ℕ) → sound t ≡ true → (c : ℕ) → c < cells_of t → SoundCell t c
@@ -181,7 +183,7 @@ valid_is_sound t v = cells_sound t (valid_cell t v)
 pub valid_is_sized : (t : List ℕ) → Valid t → sized t ≡ true
 valid_is_sized t v = sized_says t v.sized
 
-pub audit_accepts_iff_valid : (t : List ℕ) → (verdict (audit_grounds t) ≡ Accepted) ↔ Valid t
+pub audit_accepts_iff_valid : (t : List ℕ) → (verdict (audit_grounds t) ≡ Ok tt) ↔ Valid t
 audit_accepts_iff_valid t = (
   λ e. let k = accepted_none_applies (audit_grounds t) e in sound_is_valid t (not-false (sized t) k.0) (not-false (sound t) k.1.0),
   λ v. simp (valid_is_sized t v, valid_is_sound t v),

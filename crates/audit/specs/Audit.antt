@@ -11,17 +11,17 @@ use Rattle.calls.specs.declared.Refusal.{Refusal}
 use Rattle.calls.specs.declared.Refusal.TheVariants.{Invalid}
 use Rattle.calls.specs.declared.Breach.{Breach}
 use Rattle.calls.specs.declared.Breach.TheVariants.{Record, Face, Law}
-use Rattle.audit.specs.declared.Found.{Found}
-use Rattle.audit.specs.declared.Found.TheVariants.{Sound, Broken}
+use Rattle.std.specs.declared.option.Option.{Option}
+use Rattle.std.specs.declared.option.Option.TheVariants.{None, Some}
 
 -- the first breach where there is one, else the second
-abbrev pub or_else : Found → Found → Found
-or_else Sound f = f
-or_else (Broken b) f = Broken b
+abbrev pub or_else : Option Breach → Option Breach → Option Breach
+or_else None f = f
+or_else (Some b) f = Some b
 
 -- the first breach of f at 0, 1, .. below n
-unfoldable pub scan : (ℕ → Found) → ℕ → Found
-scan f zero = Sound
+unfoldable pub scan : (ℕ → Option Breach) → ℕ → Option Breach
+scan f zero = None
 scan f (suc n) = or_else (scan f n) (f n)
 
 -- a dimension or the free mark, and 65535 in every unused word
@@ -42,35 +42,35 @@ law_sound t c j l = eqb (face t (face t c j) l) (face t (face t c l) (j - 1))
 abbrev pub law_places : ℕ → ℕ
 law_places p = pick (leb 2 p) (used p) 0
 
-unfoldable pub record_breach : List ℕ → ℕ → Found
-record_breach t c = pick (record_sound t c) Sound (Broken (Record c))
+unfoldable pub record_breach : List ℕ → ℕ → Option Breach
+record_breach t c = pick (record_sound t c) None (Some (Record c))
 
-unfoldable pub face_breach : List ℕ → ℕ → ℕ → Found
-face_breach t c j = pick (face_sound t c j) Sound (Broken (Face c j))
+unfoldable pub face_breach : List ℕ → ℕ → ℕ → Option Breach
+face_breach t c j = pick (face_sound t c j) None (Some (Face c j))
 
-unfoldable pub law_breach : List ℕ → ℕ → ℕ → ℕ → Found
-law_breach t c j l = pick (law_sound t c j l) Sound (Broken (Law c j l))
+unfoldable pub law_breach : List ℕ → ℕ → ℕ → ℕ → Option Breach
+law_breach t c j l = pick (law_sound t c j l) None (Some (Law c j l))
 
-unfoldable pub cell_breach : List ℕ → ℕ → Found
+unfoldable pub cell_breach : List ℕ → ℕ → Option Breach
 cell_breach t c =
     or_else (record_breach t c)
     (or_else (scan (face_breach t c) (used (dim t c)))
     (scan (λ j. scan (law_breach t c j) j) (law_places (dim t c))))
 
-unfoldable pub first_breach : List ℕ → Found
+unfoldable pub first_breach : List ℕ → Option Breach
 first_breach t = scan (cell_breach t) (cells_of t)
 
-abbrev pub is_sound : Found → Bool
-is_sound Sound = true
-is_sound (Broken b) = false
+abbrev pub is_sound : Option Breach → Bool
+is_sound None = true
+is_sound (Some b) = false
 
 unfoldable pub sound : List ℕ → Bool
 sound t = is_sound (first_breach t)
 
 -- The breach that the search found. Where it found none the ground below does not apply, so what stands here for that is never answered.
-abbrev pub breach_in : Found → Breach
-breach_in Sound = Record 0
-breach_in (Broken b) = b
+abbrev pub breach_in : Option Breach → Breach
+breach_in None = Record 0
+breach_in (Some b) = b
 
 -- the refusal of a table that is not valid: it names the first breach
 abbrev pub invalid : List ℕ → Refusal

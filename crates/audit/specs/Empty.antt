@@ -4,7 +4,7 @@ use Rattle.std.specs.Prelude.{List, [], ◌∷◌, ℕ, length, replicate}
 use Rattle.table.specs.Kind.{free_mark}
 use Rattle.table.specs.Table.{on_length}
 use Rattle.calls.specs.Calls.{verdict, leaves}
-use Rattle.calls.specs.declared.Verdict.{Verdict}
+use Rattle.calls.specs.Calls.{Verdict}
 
 abbrev pub empty_verdict : List ℕ → Verdict
 empty_verdict t = verdict (on_length t ∷ [])

@@ -5,42 +5,30 @@ ghost use Rattle.std.specs.Prelude.{◌≡◌, true, ◌⊎◌, ◌≤◌, ◌<�
 ghost use Rattle.table.specs.Kind.{top, faces, free_mark, used as used_of};
 ghost use Rattle.table.specs.Table.{cells_of, dim as dim_of, Sized};
 ghost use Rattle.audit.specs.Audit.{scan, cell_breach, record_sound, law_places, first_breach, audit_grounds};
-ghost use Rattle.audit.specs.declared.Found.TheVariants.{Sound};
 ghost use Rattle.calls.specs.Calls.{verdict, Ends};
-ghost use Rattle.calls.specs.declared.Verdict.TheVariants.{Refused};
 ghost use Rattle.audit.specs.Empty.{empty_verdict, empty_leaves};
 
-use calls::{Breach, Refusal, Verdict};
+use calls::{Breach, Refusal};
 use table::Table;
 
-// What the search through a table finds: nothing wrong, or the first breach.
-#[derive(Drop)]
-pub enum Found {
-    Sound,
-    Broken(Breach),
-}
-
 // Sets every word to the free mark, over any old contents. Refused with 1 where the length is no table's; then no word changes.
-pub fn empty(t: &mut [u16]) -> Verdict
+pub fn empty(t: &mut [u16]) -> Result<(), Refusal>
     ensures { Ends (empty_verdict t.old) (empty_leaves t.old) result t.new }
 {
     if !Table::fits(t) {
-        return Verdict::Refused(Refusal::Length);
+        return Err(Refusal::Length);
     }
-    let mut k = 0;
-    while k < t.len() {
-        t[k] = Table::FREE;
-        k += 1;
-    }
-    Verdict::Accepted
+    t.fill(Table::FREE);
+    Ok(())
 }
 
 // Refuses a call that fills an emptied table, which may have taken something in by then: every word is the free mark again.
-pub fn refused(t: &mut [u16], why: Refusal) -> Verdict
-    ensures { Ends (Refused why) (empty_leaves t.old) result t.new }
+pub fn refused(t: &mut [u16], why: Refusal) -> Result<(), Refusal>
+    ensures { Ends (Err why) (empty_leaves t.old) result t.new }
 {
-    empty(t);
-    Verdict::Refused(why)
+    // Words that are no table stay as they are.
+    let _ = empty(t);
+    Err(why)
 }
 
 // Whether record c has a dimension or is free, and every face place that it leaves unused is the free mark.
@@ -54,14 +42,9 @@ fn record_sound(t: &[u16], c: usize) -> bool
             return false;
         }
     }
-    let mut j = Table::used(p);
-    while j < Table::FACES {
-        if Table::face(t, c, j) != Table::FREE {
-            return false;
-        }
-        j += 1;
-    }
-    true
+    Table::faces(t, c)[Table::used(p)..]
+        .iter()
+        .all(|f| *f == Table::FREE)
 }
 
 // How many face places of a cell of this dimension the law speaks of.
@@ -85,21 +68,20 @@ fn clears_as(t: &[u16], n: usize, c: usize, p: u16, used: usize, places: usize) 
     requires n_value { (n ≡ cells_of t.now) × (c < n) }
     requires p_value { (p ≡ dim_of t.now c) × ((p ≤ top) ⊎ (p ≡ free_mark)) }
     requires used_value { (used ≡ used_of p) × (places ≡ law_places p) }
-    ensures { result ≡ true → cell_breach t.now c ≡ Sound }
+    ensures { result ≡ true → cell_breach t.now c ≡ None }
 {
     let faces = Table::faces(t, c);
     let mut bad = 0;
-    for j in used..Table::FACES {
-        bad |= faces[j] ^ Table::FREE;
+    for f in &faces[used..] {
+        bad |= *f ^ Table::FREE;
     }
-    for j in 0..used {
-        if faces[j] as usize >= n {
+    for f in &faces[..used] {
+        if *f as usize >= n {
             return false;
         }
     }
-    for j in 0..used {
-        let f = faces[j] as usize;
-        bad |= Table::dim(t, f) ^ (p - 1);
+    for f in &faces[..used] {
+        bad |= Table::dim(t, *f as usize) ^ (p - 1);
     }
     if bad != 0 {
         return false;
@@ -120,7 +102,7 @@ fn clears_as(t: &[u16], n: usize, c: usize, p: u16, used: usize, places: usize) 
 // The same for any word 0: one piece of code for each dimension, and one for a free record.
 fn clears(t: &[u16], n: usize, c: usize) -> bool
     requires { (n ≡ cells_of t.now) × (c < n) }
-    ensures { result ≡ true → cell_breach t.now c ≡ Sound }
+    ensures { result ≡ true → cell_breach t.now c ≡ None }
 {
     let p = Table::dim(t, c);
     match p {
@@ -139,31 +121,29 @@ fn clears(t: &[u16], n: usize, c: usize) -> bool
 // How many cells from the first on break nothing, as far as this quick pass sees.
 fn cleared(t: &[u16], n: usize) -> usize
     requires { n ≡ cells_of t.now }
-    ensures { (result ≤ n) × (scan (cell_breach t.now) result ≡ Sound) }
+    ensures { (result ≤ n) × (scan (cell_breach t.now) result ≡ None) }
 {
-    let mut c = 0;
-    while c < n {
+    for c in 0..n {
         if !clears(t, n, c) {
             return c;
         }
-        c += 1;
     }
-    c
+    n
 }
 
 // The first breach of a table of the right length: cell by cell the record, then the face places, then the pairs of the law by j,
 // then l. The label leaves every loop at the first failure. The seven faces are read by value once, and f and e lie inside by
 // then, so the law's reads ask nothing more. A part of the audit and no public call: its caller shows the length.
-pub fn first_breach(t: &[u16]) -> Found
+pub fn first_breach(t: &[u16]) -> Option<Breach>
     requires { Sized t.now }
     ensures { result ≡ first_breach t.now }
 {
     let n = Table::room(t);
     let start = cleared(t, n);
-    let mut found = Found::Sound;
+    let mut found = None;
     'cells: for c in start..n {
         if !record_sound(t, c) {
-            found = Found::Broken(Breach::Record(c));
+            found = Some(Breach::Record(c));
             break 'cells;
         }
         let p = Table::dim(t, c);
@@ -173,11 +153,11 @@ pub fn first_breach(t: &[u16]) -> Found
         for j in 0..used {
             let f = faces[j] as usize;
             if f >= n {
-                found = Found::Broken(Breach::Face(c, j));
+                found = Some(Breach::Face(c, j));
                 break 'cells;
             }
             if Table::dim(t, f) as usize + 1 != p as usize {
-                found = Found::Broken(Breach::Face(c, j));
+                found = Some(Breach::Face(c, j));
                 break 'cells;
             }
         }
@@ -186,7 +166,7 @@ pub fn first_breach(t: &[u16]) -> Found
             for l in 0..j {
                 let e = faces[l] as usize;
                 if Table::face(t, f, l) != Table::face(t, e, j - 1) {
-                    found = Found::Broken(Breach::Law(c, j, l));
+                    found = Some(Breach::Law(c, j, l));
                     break 'cells;
                 }
             }
@@ -196,15 +176,14 @@ pub fn first_breach(t: &[u16]) -> Found
 }
 
 // Valid, or refused with 1 for the length and 2 for anything else: 2 goes with the first breach.
-pub fn audit(t: &[u16]) -> Verdict
+pub fn audit(t: &[u16]) -> Result<(), Refusal>
     ensures { result ≡ verdict (audit_grounds t.now) }
 {
     if !Table::fits(t) {
-        return Verdict::Refused(Refusal::Length);
+        return Err(Refusal::Length);
     }
-    let found = first_breach(t);
-    match found {
-        Found::Sound => Verdict::Accepted,
-        Found::Broken(b) => Verdict::Refused(Refusal::Invalid(b)),
+    match first_breach(t) {
+        None => Ok(()),
+        Some(b) => Err(Refusal::Invalid(b)),
     }
 }

@@ -3,7 +3,6 @@ pub mod Marks
 pub mod LowBit
 pub mod LargestMember
 pub mod Words
-pub mod Runs
 pub mod Adding
 pub mod Inclusion
 pub mod RowLaws

@@ -1,20 +1,20 @@
 -- Sets one after another, w words to each: which words a row has, and what writing one row leaves in it and in the others.
 -- What carries it: c < d gives c · w + w ≤ d · w. Assumes nothing.
-use mathlib.Core.Path.{◌≡◌, sym, ap, ap₂, subst, ◌∙◌}
-use mathlib.Core.Logic.{by_cases, ◌≢◌}
+use mathlib.Core.Path.{◌≡◌, refl, sym, ap, ap₂, subst, ◌∙◌}
+use mathlib.Core.Logic.{by_cases}
 use mathlib.Core.List.{List, ◌++◌}
-use Prim.Native.Nat.{ℕ, suc, ◌+◌, ◌-◌, ◌*◌, ◌/◌, ◌%◌, ◌^◌, ◌≤◌, ◌<◌}
+use Prim.Native.Nat.{ℕ, suc, ◌+◌, ◌-◌, ◌*◌, ◌≤◌, ◌<◌}
 use native.Mathlib.Nat.{suc-mul, mul-le-mul_right}
-use native.Mathlib.Decide.{dec_lt, ℕ_discrete}
+use native.Mathlib.Decide.{dec_lt}
 use native.Mathlib.Omega.{arith}
-use lib.Bits.{bit_xor}
-use lib.ListN.{length, get_or, set, take, drop, replicate, length-take, length-drop, length-set, length-replicate}
-use lib.Seq.{ext_get_or, get_or-take, get_or-drop, get_or-set_same, get_or-set_other, length-take-le, take-append-le, drop-append-le, drop-append_seam, take_all}
-use Rattle.bitset.specs.Bits.{bits, sum_of}
-use Rattle.bitset.specs.Rows.{row_at, RowKept, RowAdded, RowStarted}
-use Rattle.bitset.specs.Runs.{Run, WordsAdded, WordsCopied}
-use Rattle.bitset.proofs.Marks.{zeros_at, length_sum, sum_at}
-use Rattle.bitset.proofs.LowBit.{toggled_by_shift}
+use lib.ListN.{length, get_or, take, drop, replicate, length-take, length-drop, length-replicate}
+use lib.Seq.{ext_get_or, get_or-take, get_or-drop, length-take-le, take-append-le, drop-append-le, drop-append_seam, take_all}
+use Rattle.bitset.specs.Bits.{sum_of}
+use Rattle.bitset.specs.Rows.{row_at, RowKept, RowAdded}
+use borrow.Rule.Slice.PartMut.{put_mid}
+use Rattle.std.proofs.lemmas.List.{places, take-append-drop}
+use Rattle.std.proofs.lemmas.Slice.{between-put_mid}
+use Rattle.bitset.proofs.Marks.{zeros_at, length_sum}
 
 -- a row lies before the rows of higher number
 pub row_before : (w c d : ℕ) → c < d → c * w + w ≤ d * w
@@ -30,7 +30,7 @@ pub length_row : (w : ℕ) (ws : List ℕ) (c : ℕ) → c * w + w ≤ length ws
 length_row w ws c h = length-take-le w (drop (c * w) ws) (omega (arith, length-drop (c * w) ws))
 
 -- the part that is lent from place c · w to its end is row c
-pub lent_is_row : (w c : ℕ) (ws : List ℕ) → take (c * w + w - c * w) (drop (c * w) ws) ≡ row_at w ws c
+lent_is_row : (w c : ℕ) (ws : List ℕ) → take (c * w + w - c * w) (drop (c * w) ws) ≡ row_at w ws c
 lent_is_row w c ws = let k : c * w + w - c * w ≡ w = omega arith in ap (λ (u : ℕ). take u (drop (c * w) ws)) k
 
 -- ---- the words of a row
@@ -65,59 +65,32 @@ module _ (w : ℕ) (ws y : List ℕ) (c : ℕ) (long : length ws ≡ c * w) wher
 
 -- ---- writing one row
 
--- every other row is as it was
-others_stay : (w m d : ℕ) (f : ℕ → ℕ) (ws ws' : List ℕ) → d ≢ m → Run (m * w) w f ws ws' → row_at w ws' d ≡ row_at w ws d
-others_stay w m d f ws ws' ne run = rows_agree w ws' ws d run.long (λ i g.
-    by_cases (dec_lt d m)
-    (λ q. run.before (d * w + i) (omega (arith, row_before w d m q)))
-    (λ q. run.after (d * w + i) (omega (arith, row_before w m d (omega arith)))))
-
-pub row_kept : (w m : ℕ) (x ws ws' : List ℕ) → length x ≡ w → m * w + w ≤ length ws → WordsCopied (m * w) w x ws ws' → RowKept w m x ws ws'
-row_kept w m x ws ws' wide l run = record {
-  long = run.long;
-  row = row_by_words w ws' m x (omega (arith, run.long)) wide run.here;
-  others = λ d ne. others_stay w m d (λ i. get_or x i 0) ws ws' ne run;
+-- the words of row m were replaced by x
+pub row_put : (w m k : ℕ) (x ws : List ℕ) → k ≡ w → length x ≡ w → m * w + w ≤ length ws → RowKept w m x ws (put_mid (m * w) k ws x)
+row_put w m k x ws e wide l = record {
+  long = long;
+  row = sym (lent_is_row w m (put_mid (m * w) k ws x)) ∙ between-put_mid (m * w) k ws x (m * w + w) (omega arith) (omega (arith, wide));
+  others = λ d ne. rows_agree w (put_mid (m * w) k ws x) ws d long (λ i g.
+      by_cases (dec_lt d m)
+      (λ q. grind (arith, places, row_before w d m q))
+      (λ q. grind (arith, places, row_before w m d (omega arith))));
 }
-
-pub row_added : (w c a : ℕ) (ws ws' : List ℕ) → a < c → c * w + w ≤ length ws → WordsAdded (c * w) (a * w) w ws ws' → RowAdded w c a ws ws'
-row_added w c a ws ws' h l run =
-    row_kept w c (sum_of (row_at w ws c) (row_at w ws a)) ws ws' (length_sum (row_at w ws c) (row_at w ws a) ∙ to) l
-    (record { long = run.long; here = λ i g. run.here i g ∙ sym (sum i g); before = run.before; after = run.after })
   where
-    to : length (row_at w ws c) ≡ w
-    to = length_row w ws c l
+    long : length (put_mid (m * w) k ws x) ≡ length ws
+    long = grind (arith, places)
 
-    from : length (row_at w ws a) ≡ w
-    from = length_row w ws a (omega (arith, row_before w a c h))
-
-    sum : (i : ℕ) → i < w → get_or (sum_of (row_at w ws c) (row_at w ws a)) i 0 ≡ bit_xor (get_or ws (c * w + i) 0) (get_or ws (a * w + i) 0)
-    sum i g = sum_at (row_at w ws c) (row_at w ws a) (to ∙ sym from) i ∙ ap₂ bit_xor (get_or_row w ws c i g) (get_or_row w ws a i g)
-
--- one word k of row c is stored
-word_stored : (w c k v : ℕ) (ws : List ℕ) → c * w + w ≤ length ws → k < w → RowKept w c (set (row_at w ws c) k v) ws (set ws (c * w + k) v)
-word_stored w c k v ws h l =
-    row_kept w c (set (row_at w ws c) k v) ws (set ws (c * w + k) v) (length-set (row_at w ws c) k v ∙ length_row w ws c h) h
-    (record {
-      long = length-set ws (c * w + k) v;
-      here = λ i g. by_cases (ℕ_discrete i k)
-          (λ q. subst (λ (m : ℕ). get_or (set ws (c * w + k) v) (c * w + m) 0 ≡ get_or (set (row_at w ws c) k v) m 0) (sym q) stored)
-          (λ ne. get_or-set_other ws (c * w + k) (c * w + i) v 0 (λ q. ne (omega arith))
-          ∙ sym (get_or-set_other (row_at w ws c) k i v 0 ne ∙ get_or_row w ws c i g));
-      before = λ i g. get_or-set_other ws (c * w + k) i v 0 (λ q. omega arith);
-      after = λ i g. get_or-set_other ws (c * w + k) i v 0 (λ q. omega arith);
-    })
+-- the earlier row a was added to row c, where the words were split at row c
+pub row_added : (w c a : ℕ) (ws front back x : List ℕ) → a < c → c * w + w ≤ length ws → front ≡ take (c * w) ws → back ≡ drop (c * w) ws
+    → x ≡ sum_of (take w back) (row_at w front a) → RowAdded w c a ws (front ++ (x ++ drop w back))
+row_added w c a ws front back x h room ef eb ex =
+    rw (ef, eb) (subst (λ (y : List ℕ). RowKept w c y ws (put_mid (c * w) w ws x)) sum (row_put w c w x ws refl wide room))
   where
-    stored : get_or (set ws (c * w + k) v) (c * w + k) 0 ≡ get_or (set (row_at w ws c) k v) k 0
-    stored = get_or-set_same ws (c * w + k) v 0 (omega arith)
-        ∙ sym (get_or-set_same (row_at w ws c) k v 0 (omega (arith, length_row w ws c h)))
+    long : length (take (c * w) ws) ≡ c * w
+    long = length-take-le (c * w) ws (omega arith)
 
--- the number c is put into row c, or taken out, at one word
-pub row_started : (w c : ℕ) (ws : List ℕ) → c / bits < w → c * w + w ≤ length ws
-    → RowStarted w c ws (set ws (c * w + c / bits) (bit_xor (get_or ws (c * w + c / bits) 0) ((1 * 2 ^ (c % bits)) % 2 ^ 64)))
-row_started w c ws h l =
-    subst (λ (x : List ℕ). RowKept w c x ws (set ws (c * w + c / bits) v))
-    (ap (λ (u : ℕ). set (row_at w ws c) (c / bits) (bit_xor u ((1 * 2 ^ (c % bits)) % 2 ^ 64))) (sym (get_or_row w ws c (c / bits) h)) ∙ toggled_by_shift (row_at w ws c) c)
-    (word_stored w c (c / bits) v ws l h)
-  where
-    v : ℕ
-    v = bit_xor (get_or ws (c * w + c / bits) 0) ((1 * 2 ^ (c % bits)) % 2 ^ 64)
+    sum : x ≡ sum_of (row_at w ws c) (row_at w ws a)
+    sum = ex ∙ ap₂ (λ (y z : List ℕ). sum_of (take w y) (row_at w z a)) eb ef
+        ∙ ap (sum_of (row_at w ws c)) (sym (earlier_row w (take (c * w) ws) (drop (c * w) ws) c long a h) ∙ ap (λ (y : List ℕ). row_at w y a) (take-append-drop (c * w) ws))
+
+    wide : length x ≡ w
+    wide = ap length sum ∙ length_sum (row_at w ws c) (row_at w ws a) ∙ length_row w ws c room

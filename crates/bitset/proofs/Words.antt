@@ -1,51 +1,33 @@
 -- Sets word by word: the empty set, by its words and by its marks.
 -- The bound on the words is stated as `(k : ℕ) → get_or ws k 0 < 2 ^ 64`, which owning a slice of u64 tells. Assumes nothing.
 use mathlib.Core.Path.{◌≡◌, refl, sym, ap, ◌∙◌}
-use mathlib.Core.Logic.{◌≢◌, by_cases}
 use mathlib.Core.Bool.{Bool, true, false, ◌&&◌}
 use mathlib.Core.List.{List, [], ◌∷◌}
-use Prim.Native.Nat.{ℕ, zero, suc, ◌+◌, ◌*◌, ◌/◌, ◌^◌, ◌≤◌, ◌<◌}
-use native.Mathlib.Decide.{dec_lt}
-use native.Mathlib.Omega.{arith}
+use Prim.Native.Nat.{ℕ, zero, suc, ◌+◌, ◌*◌, ◌/◌, ◌^◌, ◌<◌}
 use borrow.Author.Tests.{eqb-true, eq-eqb}
 use lib.Dec.{eqb}
-use lib.ListN.{length, get_or, get_or-eq_default}
+use lib.ListN.{get_or}
 use Rattle.bitset.specs.Bits.{bits, mark, nothing_in}
 use Rattle.bitset.proofs.Digits.{no_digits_zero}
 use Rattle.bitset.proofs.Marks.{mark_at, mark_of_zero_word}
 
-and_left : (a b : Bool) → a && b ≡ true → a ≡ true
+pub and_left : (a b : Bool) → a && b ≡ true → a ≡ true
 and_left true b h = refl
 and_left false b h = h
 
-and_right : (a b : Bool) → a && b ≡ true → b ≡ true
+pub and_right : (a b : Bool) → a && b ≡ true → b ≡ true
 and_right true b h = h
 and_right false true h = refl
 and_right false false h = h
 
 nothing_in_words : (ws : List ℕ) → nothing_in ws ≡ true → (k : ℕ) → get_or ws k 0 ≡ 0
-unfolding nothing_in
 nothing_in_words [] h k = refl
 nothing_in_words (x ∷ ws) h zero = eqb-true x 0 (and_left (eqb x 0) (nothing_in ws) h)
 nothing_in_words (x ∷ ws) h (suc k) = nothing_in_words ws (and_right (eqb x 0) (nothing_in ws) h) k
 
 words_nothing_in : (ws : List ℕ) → ((k : ℕ) → get_or ws k 0 ≡ 0) → nothing_in ws ≡ true
-unfolding nothing_in
 words_nothing_in [] none = refl
 words_nothing_in (x ∷ ws) none = ap (λ (b : Bool). b && nothing_in ws) (eq-eqb x 0 (none 0)) ∙ words_nothing_in ws (λ k. none (suc k))
-
--- the same from the words below w, where w is past the last
-pub words_below_nothing_in : (ws : List ℕ) (w : ℕ) → length ws ≤ w → ((k : ℕ) → k < w → get_or ws k 0 ≡ 0) → nothing_in ws ≡ true
-words_below_nothing_in ws w end none =
-    words_nothing_in ws (λ k. by_cases (dec_lt k w) (none k) (λ past. get_or-eq_default ws 0 (omega arith)))
-
--- one word that is not 0 is enough
-pub word_something_in : (ws : List ℕ) (k : ℕ) → get_or ws k 0 ≢ 0 → nothing_in ws ≡ false
-word_something_in ws k some = by_value (nothing_in ws) refl
-  where
-    by_value : (b : Bool) → nothing_in ws ≡ b → b ≡ false
-    by_value true e = absurd (some (nothing_in_words ws e k))
-    by_value false e = refl
 
 -- with no bound on the words
 pub nothing_in_marks : (ws : List ℕ) → nothing_in ws ≡ true → (s : ℕ) → mark ws s ≡ 0

@@ -1,9 +1,8 @@
 -- Words as a set of numbers: bit b of word w stands for 64·w + b.
 -- A reader must believe these definitions; nothing here is proved.
-use Rattle.std.specs.Prelude.{◌≡◌, Bool, true, ◌&&◌, List, [], ◌∷◌, ℕ, ◌+◌, ◌*◌, ◌/◌, ◌%◌, ◌^◌, ◌<◌, length, get_or, set, eqb}
+use Rattle.std.specs.Prelude.{◌≡◌, Bool, true, List, [], ◌∷◌, ℕ, ◌+◌, ◌*◌, ◌/◌, ◌%◌, ◌^◌, ◌<◌, length, get_or, set, eqb, ◌==◌, Option, None, Some}
 use Rattle.std.specs.Int.Bits.{bit_xor}
-use Rattle.bitset.specs.declared.LargestCell.{LargestCell}
-use Rattle.bitset.specs.declared.LargestCell.TheVariants.{Nothing, Cell}
+use Rattle.std.specs.List.{list_all}
 
 -- bits in a word
 abbrev pub bits : ℕ
@@ -50,14 +49,13 @@ pub record IsLargestIn (ws : List ℕ) (m : ℕ) : Type 0 where
   pub in_set : mark ws m ≡ 1
   pub above : (s : ℕ) → m < s → mark ws s ≡ 0
 
-abbrev pub LargestIs : List ℕ → LargestCell → Type 0
-LargestIs ws Nothing = (s : ℕ) → mark ws s ≡ 0
-LargestIs ws (Cell m) = IsLargestIn ws m
+abbrev pub LargestIs : List ℕ → Option ℕ → Type 0
+LargestIs ws None = (s : ℕ) → mark ws s ≡ 0
+LargestIs ws (Some m) = IsLargestIn ws m
 
 -- every word is 0
-unfoldable pub nothing_in : List ℕ → Bool
-nothing_in [] = true
-nothing_in (x ∷ xs) = eqb x 0 && nothing_in xs
+abbrev pub nothing_in : List ℕ → Bool
+nothing_in ws = list_all (λ w. w == 0) ws
 
 -- every member of xs is in ys; and r says whether it is so
 abbrev pub Inside : List ℕ → List ℕ → Type 0

@@ -2,7 +2,8 @@
 // These are parts for the crates above, which show what each one asks; none is a public call.
 #![tactic(auto)]
 
-ghost use Rattle.std.specs.Prelude.{◌≡◌, ◌*◌, ◌/◌, ◌^◌, ◌≤◌, ◌<◌, length};
+ghost use Rattle.std.specs.Prelude.{◌≡◌, ◌*◌, ◌/◌, ◌^◌, ◌≤◌, ◌<◌, ◌+◌, length, All, IfSome, IfNone};
+ghost use Rattle.std.specs.List.{HoldsAt, AllWithin};
 ghost use Rattle.bitset.specs.Bits.{words_for, full_width, member, toggled, sum_of, IsLowest, LargestIs, nothing_in, IsWithin};
 
 mod matrix;
@@ -10,32 +11,23 @@ mod matrix;
 pub use matrix::{add_kept, add_row, keep_row, row, start_row};
 
 // Words in a largest set. A loop that is told this number is unrolled and keeps its words in registers, which a width that is known
-// only as it runs does not allow; so the functions that add or copy sets ask for it first.
+// only as it runs does not allow; so the function that adds sets asks for it first.
 pub const FULL: usize = 8;
 
-// The largest member of a set, where it has one.
-#[derive(Drop)]
-pub enum LargestCell {
-    Nothing,
-    Cell(usize),
-}
-
-// How many words a set of numbers below n takes: rounded up without adding to n, which may be the largest usize.
+// How many words a set of numbers below n takes.
 pub fn words_for(n: usize) -> usize
     ensures { result ≡ words_for n }
 {
-    n / 64 + (n % 64 + 63) / 64
+    n.div_ceil(64)
 }
 
 // Whether c is in the set; a number past the last word is not.
 pub fn has(ws: &[u64], c: usize) -> bool
     ensures { result ≡ member ws.now c }
 {
-    let w = c / 64;
-    if w < ws.len() {
-        (ws[w] >> (c % 64)) % 2 == 1
-    } else {
-        false
+    match ws.get(c / 64) {
+        Some(word) => (word >> (c % 64)) % 2 == 1,
+        None => false,
     }
 }
 
@@ -44,7 +36,7 @@ pub fn toggle(ws: &mut [u64], c: usize)
     requires { c / 64 < length ws.old }
     ensures { ws.new ≡ toggled ws.old c }
 {
-    ws[c / 64] = ws[c / 64] ^ (1 << (c % 64));
+    ws[c / 64] ^= 1 << (c % 64);
 }
 
 // Adds a set to another of the same width: word by word, exclusive or.
@@ -52,55 +44,46 @@ pub fn add(into: &mut [u64], from: &[u64])
     requires { length into.old ≡ length from.now }
     ensures { into.new ≡ sum_of into.old from.now }
 {
-    let n = from.len();
-    if n == FULL {
-        return add_first(into, from, FULL);
+    if from.len() == FULL {
+        return add_words(&mut into[..FULL], &from[..FULL]);
     }
-    add_first(into, from, n)
+    add_words(into, from)
 }
 
-// The same, told how many words there are.
-fn add_first(into: &mut [u64], from: &[u64], n: usize)
-    requires into_len { length into.old ≡ length from.now }
-    requires n_value { n ≡ length from.now }
+fn add_words(into: &mut [u64], from: &[u64])
+    requires { length into.old ≡ length from.now }
     ensures { into.new ≡ sum_of into.old from.now }
 {
-    let mut w = 0;
-    while w < n {
-        into[w] = into[w] ^ from[w];
-        w += 1;
+    for (w, word) in into.iter_mut().enumerate() {
+        *word ^= from[w];
     }
 }
 
 // The largest member, from the top bit of the last word that is not 0. It asks that every number that
 // the words can stand for fits a usize.
-pub fn largest(ws: &[u64]) -> LargestCell
+pub fn largest(ws: &[u64]) -> Option<usize>
     requires { 64 * length ws.now ≤ 2 ^ 64 }
     ensures { LargestIs ws.now result }
 {
-    let mut w = ws.len();
-    while w > 0 {
-        w -= 1;
-        let v = ws[w];
-        if v != 0 {
-            return LargestCell::Cell(64 * w + (63 - u64::leading_zeros(v) as usize));
-        }
-    }
-    LargestCell::Nothing
+    let last = last_word(ws)?;
+    Some(64 * last + ws[last].ilog2() as usize)
+}
+
+// The place of the last word that is not 0.
+fn last_word(ws: &[u64]) -> Option<usize>
+    ensures inside { IfSome result (λ w. w < length ws.now) }
+    ensures nonzero { IfSome result (HoldsAt (λ word. 0 < word) ws.now) }
+    ensures zeros { IfSome result (λ w. AllWithin (λ word. word ≡ 0) ws.now (w + 1) (length ws.now)) }
+    ensures none { IfNone result (All (λ word. word ≡ 0) ws.now) }
+{
+    ws.iter().rposition(|word| *word != 0)
 }
 
 // Whether the set has no member.
 pub fn is_empty(ws: &[u64]) -> bool
     ensures { result ≡ nothing_in ws.now }
 {
-    let mut k = 0;
-    while k < ws.len() {
-        if ws[k] != 0 {
-            return false;
-        }
-        k += 1;
-    }
-    true
+    ws.iter().all(|word| *word == 0)
 }
 
 // Whether every member of the first set is in the second, which has as many words at least: word by word.
@@ -108,14 +91,7 @@ pub fn within(xs: &[u64], ys: &[u64]) -> bool
     requires { length xs.now ≤ length ys.now }
     ensures { IsWithin xs.now ys.now result }
 {
-    let mut k = 0;
-    while k < xs.len() {
-        if xs[k] | ys[k] != ys[k] {
-            return false;
-        }
-        k += 1;
-    }
-    true
+    xs.iter().zip(ys).all(|(x, y)| x | y == *y)
 }
 
 // The lowest bit of a word that is not 0.
@@ -123,7 +99,7 @@ pub fn lowest(v: u64) -> usize
     requires { 0 < v }
     ensures { IsLowest v result }
 {
-    u64::trailing_zeros(v) as usize
+    v.trailing_zeros() as usize
 }
 
 // The number of the code is that of the definitions.

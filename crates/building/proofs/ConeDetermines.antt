@@ -13,7 +13,8 @@ use Rattle.table.specs.Kind.{faces}
 use Rattle.table.specs.Table.{cells_of, dim, face}
 use Rattle.table.proofs.Words.{table_by_records}
 use Rattle.table.proofs.Records.{live_says}
-use Rattle.calls.specs.declared.Verdict.TheVariants.{Accepted}
+use Rattle.std.specs.declared.result.Result.TheVariants.{Ok}
+use Prim.{tt}
 use Rattle.cone.specs.Cone.{apex_of, cone_of, coned, cone_verdict}
 use Rattle.building.specs.ConeRule.{IsCone}
 use Rattle.cone.proofs.Acceptance.{Accepts, cone_accepted}
@@ -97,7 +98,7 @@ module _ (t marks : List ℕ) (acc : Accepts t marks) (a a' : ℕ) (κ κ' : ℕ
   )
 
 -- so what an accepted call names and leaves is all that the published rule permits
-pub rule_gives_coned : (t marks : List ℕ) → cone_verdict t marks ≡ Accepted → (a : ℕ) (κ : ℕ → ℕ) (u : List ℕ) → IsCone t marks a κ u → (a ≡ apex_of t) × (u ≡ coned t marks)
+pub rule_gives_coned : (t marks : List ℕ) → cone_verdict t marks ≡ Ok tt → (a : ℕ) (κ : ℕ → ℕ) (u : List ℕ) → IsCone t marks a κ u → (a ≡ apex_of t) × (u ≡ coned t marks)
 rule_gives_coned t marks e a κ u x =
     let acc = cone_accepted t marks e in
     let d = cone_determines t marks acc a (apex_of t) κ (cone_of t marks) u (coned t marks) x (coned_is_cone t marks acc) in

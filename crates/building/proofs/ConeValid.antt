@@ -12,8 +12,9 @@ use Rattle.bitset.specs.Bits.{member}
 use Rattle.table.specs.Kind.{top, faces, width, free_mark, used}
 use Rattle.table.specs.Table.{cells_of, dim, face, Live, Valid}
 use Rattle.calls.specs.Calls.{leaves}
-use Rattle.calls.specs.declared.Verdict.{Verdict}
-use Rattle.calls.specs.declared.Verdict.TheVariants.{Accepted, Refused}
+use Rattle.calls.specs.Calls.{Verdict}
+use Rattle.std.specs.declared.result.Result.TheVariants.{Ok, Err}
+use Prim.{tt}
 use Rattle.table.proofs.Records.{live_says}
 use Rattle.table.proofs.Places.{used_is, used_says}
 use Rattle.cone.specs.Cone.{free, apex_of, cone_of, coned, cone_verdict, cone_leaves}
@@ -240,14 +241,14 @@ module _ (t marks : List ℕ) (acc : Accepts t marks) (a : ℕ) (κ : ℕ → �
         law = λ c j l v h k b. law_by c j l h v.low k b (sorted c v.inside);
       }
 
-cone_keeps_valid : (t marks : List ℕ) → cone_verdict t marks ≡ Accepted → Valid (coned t marks)
+cone_keeps_valid : (t marks : List ℕ) → cone_verdict t marks ≡ Ok tt → Valid (coned t marks)
 cone_keeps_valid t marks e =
     let acc = cone_accepted t marks e in
     cone_is_valid t marks acc (apex_of t) (cone_of t marks) (coned t marks) (coned_is_cone t marks acc)
 
-leaves_valid : (v : Verdict) (new t : List ℕ) → Valid t → (v ≡ Accepted → Valid new) → Valid (leaves v new t)
-leaves_valid Accepted new t z h = h refl
-leaves_valid (Refused r) new t z h = z
+leaves_valid : (v : Verdict) (new t : List ℕ) → Valid t → (v ≡ Ok tt → Valid new) → Valid (leaves v new t)
+leaves_valid (Ok tt) new t z h = h refl
+leaves_valid (Err r) new t z h = z
 
 -- whatever the marks are
 pub cone_leaves_valid : (t marks : List ℕ) → Valid t → Valid (cone_leaves t marks)

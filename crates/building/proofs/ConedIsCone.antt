@@ -14,7 +14,8 @@ use Rattle.bitset.specs.Bits.{member}
 use Rattle.table.specs.Kind.{faces, width, free_mark, used}
 use Rattle.table.specs.Table.{cells_of, dim, face, live}
 use Rattle.table.specs.Records.{Record, record_at}
-use Rattle.calls.specs.declared.Verdict.TheVariants.{Accepted}
+use Rattle.std.specs.declared.result.Result.TheVariants.{Ok}
+use Prim.{tt}
 use Rattle.table.proofs.Words.{length_table_of, dim_table_of, face_table_of}
 use Rattle.table.proofs.Records.{live_true}
 use Rattle.table.proofs.Places.{used_says}
@@ -148,5 +149,5 @@ module _ (t marks : List ℕ) (a : Accepts t marks) where
         rest_face = λ c j f h other none. kept_face t marks c j (free_inside t c f) h (rest_not_given c f other none);
       }
 
-pub accepted_is_cone : (t marks : List ℕ) → cone_verdict t marks ≡ Accepted → IsCone t marks (apex_of t) (cone_of t marks) (coned t marks)
+pub accepted_is_cone : (t marks : List ℕ) → cone_verdict t marks ≡ Ok tt → IsCone t marks (apex_of t) (cone_of t marks) (coned t marks)
 accepted_is_cone t marks e = coned_is_cone t marks (cone_accepted t marks e)

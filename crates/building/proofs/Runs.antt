@@ -6,8 +6,9 @@ use mathlib.Core.List.{List, [], ◌∷◌}
 use Prim.Native.Nat.{ℕ}
 use Rattle.table.specs.Table.{Valid}
 use Rattle.calls.specs.Calls.{leaves}
-use Rattle.calls.specs.declared.Verdict.{Verdict}
-use Rattle.calls.specs.declared.Verdict.TheVariants.{Accepted, Refused}
+use Rattle.calls.specs.Calls.{Verdict}
+use Rattle.std.specs.declared.result.Result.TheVariants.{Ok, Err}
+use Prim.{tt}
 use Rattle.merge.specs.Merge.{merged, merge_leaves}
 use Rattle.merge.proofs.Identification.{identification_determines}
 use Rattle.merge.proofs.Answers.{merge_leaves_valid, merge_accepted_leaves}
@@ -46,11 +47,11 @@ left_is t (weld_of a b) = refl
 left_is t (compaction list) = refl
 
 -- an accepted weld leaves the table renamed by every map that is the weld's
-weld_leaves_lem : (t : List ℕ) (a b : ℕ) → weld_verdict t a b ≡ Accepted → (κ : ℕ → ℕ) → IsWeld t a b κ → weld_leaves t a b ≡ renamed κ t
+weld_leaves_lem : (t : List ℕ) (a b : ℕ) → weld_verdict t a b ≡ Ok tt → (κ : ℕ → ℕ) → IsWeld t a b κ → weld_leaves t a b ≡ renamed κ t
 weld_leaves_lem t a b e κ x = ap (λ (v : Verdict). leaves v (welded t a b) t) e ∙ welded_is_renamed t a b e κ x
 
 -- it is what the rule gives,
-made_by_rule : (t : List ℕ) (r : Request) → verdict_on t r ≡ Accepted → Rule t r (left_by t r)
+made_by_rule : (t : List ℕ) (r : Request) → verdict_on t r ≡ Ok tt → Rule t r (left_by t r)
 made_by_rule t (cone_over marks) e =
     by_cone (apex_of t) (cone_of t marks)
     (subst (λ (u : List ℕ). IsCone t marks (apex_of t) (cone_of t marks) u) (sym (ap (λ (v : Verdict). leaves v (coned t marks) t) e)) (accepted_is_cone t marks e))
@@ -61,7 +62,7 @@ made_by_rule t (weld_of a b) e =
 made_by_rule t (compaction list) e = by_compaction (new_number t) (accepted_leaves t list e)
 
 -- the rule gives nothing else,
-rule_is_made : {t u : List ℕ} {r : Request} → Valid t → verdict_on t r ≡ Accepted → Rule t r u → u ≡ left_by t r
+rule_is_made : {t u : List ℕ} {r : Request} → Valid t → verdict_on t r ≡ Ok tt → Rule t r u → u ≡ left_by t r
 rule_is_made {t} {u} v e (by_cone {marks = marks} apex κ x) =
     (rule_gives_coned t marks e apex κ u x).1 ∙ sym (ap (λ (w : Verdict). leaves w (coned t marks) t) e)
 rule_is_made {t} {u} v e (by_identification {a = a} {b = b} x) =
@@ -87,12 +88,12 @@ pub call_is_step : (t : List ℕ) (r : Request) → Step t r (left_by t r)
 call_is_step t r = go (verdict_on t r) refl
   where
     go : (v : Verdict) → verdict_on t r ≡ v → Step t r (left_by t r)
-    go Accepted e = made e (made_by_rule t r e)
-    go (Refused x) e = subst (λ (u : List ℕ). Step t r u) (sym (refused_leaves t r (Refused x) e)) (refused x e)
+    go (Ok tt) e = made e (made_by_rule t r e)
+    go (Err x) e = subst (λ (u : List ℕ). Step t r u) (sym (refused_leaves t r (Err x) e)) (refused x e)
 
 -- and the rules permit no other
 pub step_is_call : {t u : List ℕ} {r : Request} → Valid t → Step t r u → u ≡ left_by t r
-step_is_call {t} v (refused {r = r} x e) = sym (refused_leaves t r (Refused x) e)
+step_is_call {t} v (refused {r = r} x e) = sym (refused_leaves t r (Err x) e)
 step_is_call v (made e x) = rule_is_made v e x
 
 -- ---- any run

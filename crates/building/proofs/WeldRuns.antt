@@ -4,8 +4,9 @@ use mathlib.Core.Path.{◌≡◌, refl, sym, ap, ◌∙◌}
 use mathlib.Core.List.{List, [], ◌∷◌}
 use Prim.Native.Nat.{ℕ}
 use Rattle.calls.specs.Calls.{leaves}
-use Rattle.calls.specs.declared.Verdict.{Verdict}
-use Rattle.calls.specs.declared.Verdict.TheVariants.{Accepted}
+use Rattle.calls.specs.Calls.{Verdict}
+use Rattle.std.specs.declared.result.Result.TheVariants.{Ok}
+use Prim.{tt}
 use Rattle.merge.specs.Merge.{merged}
 use Rattle.weld.specs.Weld.{IsWeld}
 use Rattle.weld.specs.Merges.{Pair, Merges, weld_merges}
@@ -22,7 +23,7 @@ merges_run {t} (more {p = p} {ps = ps} e m) =
     ap (λ (v : Verdict). calls (leaves v (merged t p.kept p.gone) t) (merges_of ps)) e ∙ merges_run m
 
 pub weld_is_its_merges :
-    (t : List ℕ) (a b : ℕ) → weld_verdict t a b ≡ Accepted → (κ : ℕ → ℕ) → IsWeld t a b κ →
+    (t : List ℕ) (a b : ℕ) → weld_verdict t a b ≡ Ok tt → (κ : ℕ → ℕ) → IsWeld t a b κ →
     calls t (merges_of (weld_merges t κ)) ≡ calls t (weld_of a b ∷ [])
 unfolding calls
 weld_is_its_merges t a b e κ x =

@@ -10,7 +10,8 @@ use Rattle.table.specs.Table.{live, sized}
 use Rattle.counting.specs.Counting.{listed, all, how_many, nth, some_has}
 use Rattle.table.specs.Records.{word_of, table_of}
 use Rattle.audit.specs.Audit.{scan, record_sound, face_sound, law_sound, record_breach, face_breach, law_breach, cell_breach, first_breach, sound}
-use Rattle.calls.specs.declared.Verdict.TheVariants.{Accepted}
+use Rattle.std.specs.declared.result.Result.TheVariants.{Ok}
+use Prim.{tt}
 use Rattle.cone.specs.Cone.{free, apex_of, cone_of, base_of, new_cells, cone_face, coned, marked_not_live, not_closed, top_marked, no_room, cone_verdict}
 
 abbrev blank : List ℕ
@@ -32,7 +33,7 @@ before = blank ++ blank ++ edge 5 3 ++ point ++ blank ++ point ++ blank ++ blank
 abbrev marked : List ℕ
 marked = 44 ∷ []
 
-worked_accepted : cone_verdict before marked ≡ Accepted
+worked_accepted : cone_verdict before marked ≡ Ok tt
 unfolding cone_verdict digit mark member live all scan record_sound face_sound law_sound record_breach face_breach law_breach cell_breach first_breach sized sound how_many nth some_has free new_cells marked_not_live not_closed top_marked no_room
 worked_accepted = refl
 

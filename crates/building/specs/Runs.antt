@@ -4,8 +4,9 @@
 -- A reader must believe these definitions; nothing here is proved.
 use Rattle.std.specs.Prelude.{◌≡◌, List, [], ◌∷◌, ℕ}
 use Rattle.calls.specs.declared.Refusal.{Refusal}
-use Rattle.calls.specs.declared.Verdict.{Verdict}
-use Rattle.calls.specs.declared.Verdict.TheVariants.{Accepted, Refused}
+use Rattle.calls.specs.Calls.{Verdict}
+use Rattle.std.specs.declared.result.Result.TheVariants.{Ok, Err}
+use Prim.{tt}
 use Rattle.merge.specs.Merge.{IsIdentification, merge_verdict, merge_leaves}
 use Rattle.merge.specs.Rename.{renamed}
 use Rattle.weld.specs.Weld.{IsWeld}
@@ -39,8 +40,8 @@ verdict_on t (compaction list) = compact_verdict t list
 
 -- One request: where the list of refusals refuses it nothing changes, else the table is what the rules give.
 pub data Step : List ℕ → Request → List ℕ → Type 1 where
-  refused : {t : List ℕ} {r : Request} (x : Refusal) → verdict_on t r ≡ Refused x → Step t r t
-  made : {t t' : List ℕ} {r : Request} → verdict_on t r ≡ Accepted → Rule t r t' → Step t r t'
+  refused : {t : List ℕ} {r : Request} (x : Refusal) → verdict_on t r ≡ Err x → Step t r t
+  made : {t t' : List ℕ} {r : Request} → verdict_on t r ≡ Ok tt → Rule t r t' → Step t r t'
 
 -- the published rules, one request after the other
 pub data Run : List ℕ → List Request → List ℕ → Type 1 where

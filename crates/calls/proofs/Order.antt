@@ -12,7 +12,7 @@ use Rattle.calls.specs.Order.{Applies, Lowest, RisesFrom}
 use Rattle.calls.specs.Order.Applies.{here, later}
 use Rattle.calls.proofs.Givens.{first_or_later}
 use Rattle.calls.specs.declared.Refusal.{Refusal}
-use Rattle.calls.specs.declared.Verdict.TheVariants.{Refused}
+use Rattle.std.specs.declared.result.Result.TheVariants.{Err}
 
 above : (n m : ℕ) (gs : List Ground) → RisesFrom n gs → Applies gs m → n < m
 above n m [] rise none = elim none [ ]
@@ -36,7 +36,7 @@ module _ (g : Ground) (gs : List Ground) where
       lower m (here a) = absurd (false≢true (sym off ∙ a))
       lower m (later a) = rest.lowest m a
 
-pub lowest_applies : (n : ℕ) (gs : List Ground) (r : Refusal) → RisesFrom n gs → verdict gs ≡ Refused r → Lowest gs r
+pub lowest_applies : (n : ℕ) (gs : List Ground) (r : Refusal) → RisesFrom n gs → verdict gs ≡ Err r → Lowest gs r
 lowest_applies n [] r rise e = let z : ◌≡◌ {A = ℕ} 0 1 = cc in absurd (omega arith)
 lowest_applies n (g ∷ gs) r rise e =
     ⊎_elim

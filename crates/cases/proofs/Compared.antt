@@ -9,8 +9,9 @@ use lib.Dec.{eqb}
 use lib.IntN.{ℤ, pos, negsuc}
 use Rattle.counting.proofs.Cases.{and_left, and_right}
 use Rattle.homology.proofs.Marks.{clash}
-use Rattle.reading.specs.declared.Sum.{Sum}
-use Rattle.reading.specs.declared.Sum.TheVariants.{Is, NoSum}
+use Rattle.std.specs.declared.result.Result.{Result}
+use Rattle.calls.specs.declared.Refusal.{Refusal}
+use Rattle.std.specs.declared.result.Result.TheVariants.{Ok, Err}
 use Rattle.cases.specs.Cases.{Answer}
 use Rattle.cases.specs.Cases.Answer.{names, done, refused}
 
@@ -42,14 +43,14 @@ same_integer_lem (negsuc a) (pos b) e = clash e refl
 same_integer_lem (negsuc a) (negsuc b) e = ap negsuc (eqb-true a b e)
 
 -- an answer that is this integer
-unfoldable pub is_sum : Sum → ℤ → Bool
-is_sum (Is x) z = same_integer x z
-is_sum (NoSum r) z = false
+unfoldable pub is_sum : Result ℤ Refusal → ℤ → Bool
+is_sum (Ok x) z = same_integer x z
+is_sum (Err r) z = false
 
-pub is_sum_lem : (s : Sum) (z : ℤ) → is_sum s z ≡ true → s ≡ Is z
+pub is_sum_lem : (s : Result ℤ Refusal) (z : ℤ) → is_sum s z ≡ true → s ≡ Ok z
 unfolding is_sum
-is_sum_lem (Is x) z e = ap Is (same_integer_lem x z e)
-is_sum_lem (NoSum r) z e = clash e refl
+is_sum_lem (Ok x) z e = ap Ok (same_integer_lem x z e)
+is_sum_lem (Err r) z e = clash e refl
 
 unfoldable pub same_answer : Answer → Answer → Bool
 same_answer (names a) (names b) = eqb a b

@@ -7,9 +7,9 @@ use Rattle.table.specs.Kind.{top}
 use Rattle.table.specs.Table.{Valid}
 use Rattle.calls.specs.Numbers.{number_of}
 use Rattle.calls.specs.Calls.{on_verdict}
-use Rattle.calls.specs.declared.Verdict.{Verdict}
-use Rattle.calls.specs.declared.Named.{Named}
-use Rattle.calls.specs.declared.Named.TheVariants.{Cell, NoCell}
+use Rattle.calls.specs.Calls.{Verdict}
+use Rattle.calls.specs.Calls.{Named}
+use Rattle.std.specs.declared.result.Result.TheVariants.{Ok, Err}
 use Rattle.complex.specs.Cells.{cells}
 use Rattle.reducer.specs.Reduce.{Reduction}
 use Rattle.merge.specs.Merge.{merge_answer}
@@ -19,7 +19,6 @@ use Rattle.compaction.specs.Call.{compact_verdict}
 use Rattle.building.specs.Runs.{Request, Step}
 use Rattle.building.specs.Runs.Request.{cone_over, merge_of, weld_of, compaction}
 use Rattle.reading.specs.Incidence.{incidence_answer}
-use Rattle.reading.specs.declared.Sum.TheVariants.{Is}
 use Rattle.cases.specs.Cases.{Answer, Asked, Incidence, Counts, Case}
 use Rattle.cases.specs.Cases.Answer.{names, done, refused}
 use Rattle.cases.specs.Cases.Asked.{nothing, call}
@@ -33,8 +32,8 @@ pub data Each {ℓ} {A : Type 0} (P : A → Type ℓ) : List A → Type ℓ wher
 
 -- an answer in the paper's words: the cell's number, or the number that the refusal has in the published list
 abbrev pub told : Named → Answer
-told (Cell c) = names c
-told (NoCell r) = refused (number_of r)
+told (Ok c) = names c
+told (Err r) = refused (number_of r)
 
 -- the same of an answer that names no cell
 abbrev pub told_plain : Verdict → Answer
@@ -60,7 +59,7 @@ pub data Leads : List ℕ → Asked → List ℕ → Type 1 where
 
 -- the incidence call accepts the two cells and answers this value
 abbrev pub IncidenceIs : List ℕ → Incidence → Type 0
-IncidenceIs t i = incidence_answer t i.cell i.face ≡ Is i.value
+IncidenceIs t i = incidence_answer t i.cell i.face ≡ Ok i.value
 
 -- there is evidence by the reducer's rule, with these additions
 abbrev pub ReducedWith : List ℕ → Counts → Type 0

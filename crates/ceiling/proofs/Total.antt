@@ -17,8 +17,9 @@ use Rattle.homology.specs.Holes.{boundary}
 use Rattle.homology.specs.Evidence.{cells_in, bounding_in}
 use Rattle.homology.proofs.Marks.{by_mark, &&-off}
 use Rattle.table.specs.Kind.{dimensions}
-use Rattle.calls.specs.declared.Verdict.{Verdict}
-use Rattle.calls.specs.declared.Verdict.TheVariants.{Accepted}
+use Rattle.calls.specs.Calls.{Verdict}
+use Rattle.std.specs.declared.result.Result.TheVariants.{Ok}
+use Prim.{tt}
 use Rattle.complex.specs.Cells.{cells}
 use Rattle.complex.proofs.Boundary.{valid_is_lawful}
 use Rattle.rows.specs.Rows.{rows}
@@ -97,7 +98,7 @@ pub by_rule_under_cells : (K : Cells) (ev : List ℕ) (adds : ℕ → ℕ) → L
 by_rule_under_cells K ev adds lawful by = additions_before K lawful ev adds by
 
 -- an accepted call, with the rows that it leaves
-pub accepted_under_ceiling : (t ev a₀ : List ℕ) (r : Verdict) (ev' a : List ℕ) → Reduces t ev a₀ r ev' a → reduce_verdict t ev ≡ Accepted → (p : ℕ) → p < dimensions → get_or a p 0 ≤ ceiling_in (cells t) ev' p
+pub accepted_under_ceiling : (t ev a₀ : List ℕ) (r : Verdict) (ev' a : List ℕ) → Reduces t ev a₀ r ev' a → reduce_verdict t ev ≡ Ok tt → (p : ℕ) → p < dimensions → get_or a p 0 ≤ ceiling_in (cells t) ev' p
 accepted_under_ceiling t ev a₀ r ev' a call accepted p low =
     let made = call.accepted accepted in
     let counted : get_or a p 0 ≡ additions_in (cells t) made.adds p (cells t).size =

@@ -1,11 +1,11 @@
 -- The answer as a whole: what a refusal and an acceptance hold beside the verdict.
 -- What carries it: the verdict decides whether the numbers are counted or 0. Assumes nothing.
-use mathlib.Core.Path.{◌≡◌, sym, ap, ap₂, ◌∙◌}
+use mathlib.Core.Path.{◌≡◌, refl, sym, ap, ap₂, ◌∙◌}
 use mathlib.Core.List.{List}
 use Prim.Native.Nat.{ℕ, suc, ◌+◌, ◌-◌, ◌≤◌, ◌<◌}
 use native.Mathlib.Numerals.{add-one}
 use native.Mathlib.Omega.{arith}
-use lib.ListN.{length, get_or, replicate}
+use lib.ListN.{length, get_or}
 use lib.Seq.{ext_get_or}
 use Rattle.homology.specs.Cells.{Cells, Lawful}
 use Rattle.homology.specs.Evidence.{Meets, cells_in, bounding_in, holes_in}
@@ -14,28 +14,31 @@ use Rattle.table.specs.Kind.{top}
 use Rattle.counting.specs.Counting.{listed}
 use Rattle.counting.proofs.Listed.{length_listed, get_or_listed}
 use Rattle.calls.specs.declared.Refusal.{Refusal}
-use Rattle.calls.specs.declared.Verdict.{Verdict}
-use Rattle.calls.specs.declared.Verdict.TheVariants.{Accepted, Refused}
+use Rattle.calls.specs.Calls.{Verdict, on_verdict}
+use Rattle.std.specs.declared.result.Result.TheVariants.{Ok, Err}
+use Prim.{tt}
 use Rattle.rows.specs.Rows.{rows}
-use Rattle.checker.specs.declared.Checked.{Checked}
-use Rattle.checker.specs.Check.{per_dimension, Answered, Checks}
+use Rattle.std.specs.Prelude.{Result}
+use Rattle.checker.specs.declared.Counts.{Counts}
+use Rattle.checker.specs.Check.{counted, Answered, Checks}
 use Rattle.checker.specs.Row.{CountsFit, differences}
 
--- an answer by the verdict's name
-module _ (K : Cells) (ev : List ℕ) (v : Verdict) (q : Checked) where
-  pub refused_answer : (r : Refusal) → Refused r ≡ v → q.verdict ≡ Refused r → q.cells ≡ replicate (top + 1) 0 → q.holes ≡ replicate (top + 1) 0 → Answered K ev v q
-  refused_answer r e d n h = record {
-    verdict_is = d ∙ e;
-    cells_are = n ∙ ap (λ w. per_dimension w (cells_in K)) e;
-    holes_are = h ∙ ap (λ w. per_dimension w (holes_in K (rows K ev))) e;
-  }
+-- an answer by the verdict
+module _ (K : Cells) (ev : List ℕ) (v : Verdict) where
+  pub refused_answer : (r : Refusal) → Err r ≡ v → Answered K ev v (Err r)
+  refused_answer r e = ap (λ w. on_verdict w (Ok (counted K ev)) Err) e
 
-  pub accepted_answer : Accepted ≡ v → q.verdict ≡ Accepted → q.cells ≡ listed (top + 1) (cells_in K) → q.holes ≡ listed (top + 1) (holes_in K (rows K ev)) → Answered K ev v q
-  accepted_answer e d n h = record {
-    verdict_is = d ∙ e;
-    cells_are = n ∙ ap (λ w. per_dimension w (cells_in K)) e;
-    holes_are = h ∙ ap (λ w. per_dimension w (holes_in K (rows K ev))) e;
-  }
+  pub accepted_answer : (Ok tt) ≡ v → (q : Counts) → q.cells ≡ listed (top + 1) (cells_in K) → q.holes ≡ listed (top + 1) (holes_in K (rows K ev)) → Answered K ev v (Ok q)
+  accepted_answer e q n h = (λ i. Ok record { cells = n i; holes = h i }) ∙ ap (λ w. on_verdict w (Ok (counted K ev)) Err) e
+
+-- the verdict by an answer: counts come with acceptance alone, and are those that were counted; a refusal comes with itself alone
+pub counts_are_counted : (v : Verdict) {q r : Counts} → Ok r ≡ on_verdict v (Ok q) Err → (v ≡ Ok tt) × (r ≡ q)
+counts_are_counted (Ok u) e = (refl, cc)
+counts_are_counted (Err x) e = let z : ◌≡◌ {A = ℕ} 0 1 = cc in absurd (omega arith)
+
+pub refusal_is_refused : (v : Verdict) (q : Counts) (x : Refusal) → Err x ≡ on_verdict v (Ok q) Err → v ≡ Err x
+refusal_is_refused (Ok u) q x e = let z : ◌≡◌ {A = ℕ} 0 1 = cc in absurd (omega arith)
+refusal_is_refused (Err y) q x e = cc
 
 -- the counters, where the evidence meets the rules
 module _ (K : Cells) (ev ns rs : List ℕ) (law : Lawful K) (m : Meets K (rows K ev)) (cells_are : ns ≡ listed (top + 1) (cells_in K))
@@ -67,10 +70,5 @@ module _ (K : Cells) (ev ns rs : List ℕ) (law : Lawful K) (m : Meets K (rows K
       ∙ sym (get_or_listed (top + 1) g p l))
 
 -- two permitted answers are equal
-pub one_answer : (t ev : List ℕ) (r r' : Checked) → Checks t ev r → Checks t ev r' → r ≡ r'
-one_answer t ev r r' h h' = λ i.
-    record {
-      verdict = (h.verdict_is ∙ sym h'.verdict_is) i;
-      cells = (h.cells_are ∙ sym h'.cells_are) i;
-      holes = (h.holes_are ∙ sym h'.holes_are) i;
-    }
+pub one_answer : (t ev : List ℕ) (r r' : Result Counts Refusal) → Checks t ev r → Checks t ev r' → r ≡ r'
+one_answer t ev r r' h h' = h ∙ sym h'

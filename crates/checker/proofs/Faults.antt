@@ -6,13 +6,15 @@ use mathlib.Core.List.{List}
 use Prim.Native.Nat.{ℕ, zero, suc, ◌+◌, ◌-◌, ◌≤◌, ◌<◌}
 use native.Mathlib.Numerals.{add-one}
 use native.Mathlib.Omega.{arith}
+use Rattle.calls.proofs.Grounds.{refused_not_accepted}
 use Rattle.homology.specs.Cells.{Cells}
 use Rattle.homology.proofs.Marks.{by_mark, by_order}
 use Rattle.calls.specs.Calls.{verdict}
 use Rattle.calls.specs.declared.Refusal.{Refusal}
 use Rattle.calls.specs.declared.Refusal.TheVariants as refusals
-use Rattle.calls.specs.declared.Verdict.{Verdict}
-use Rattle.calls.specs.declared.Verdict.TheVariants.{Accepted, Refused}
+use Rattle.calls.specs.Calls.{Verdict}
+use Rattle.std.specs.declared.result.Result.TheVariants.{Ok, Err}
+use Prim.{tt}
 use Rattle.checker.specs.Check.{keeps_a, keeps_b, row_grounds}
 
 -- every row below c keeps both rules
@@ -34,9 +36,6 @@ data Outcome (K : Cells) (ev : List ℕ) (n : ℕ) : Type 0 where
 abbrev pub verdict_from : Cells → List ℕ → ℕ → ℕ → Verdict
 verdict_from K ev c k = verdict (row_grounds K ev c k)
 
-refused_not_accepted : (r : Refusal) → Refused r ≡ Accepted → ⊥
-refused_not_accepted r e = let z : ◌≡◌ {A = ℕ} 0 1 = cc in omega arith
-
 module _ (K : Cells) (ev : List ℕ) where
   pub passed_none : Passed K ev 0
   passed_none = record { keeps_a_lem = λ b l. absurd (omega arith); keeps_b_lem = λ b l. absurd (omega arith) }
@@ -57,11 +56,11 @@ module _ (K : Cells) (ev : List ℕ) where
   unfolding row_grounds
   row_passes c k a b = rw (a, b)
 
-  row_breaks_a : (c k : ℕ) → keeps_a K ev c ≡ false → verdict_from K ev c (suc k) ≡ Refused (refusals.RuleA c)
+  row_breaks_a : (c k : ℕ) → keeps_a K ev c ≡ false → verdict_from K ev c (suc k) ≡ Err (refusals.RuleA c)
   unfolding row_grounds
   row_breaks_a c k a = rw a
 
-  row_breaks_b : (c k : ℕ) → keeps_a K ev c ≡ true → keeps_b K ev c ≡ false → verdict_from K ev c (suc k) ≡ Refused (refusals.RuleB c)
+  row_breaks_b : (c k : ℕ) → keeps_a K ev c ≡ true → keeps_b K ev c ≡ false → verdict_from K ev c (suc k) ≡ Err (refusals.RuleB c)
   unfolding row_grounds
   row_breaks_b c k a b = rw (a, b)
 
@@ -81,14 +80,14 @@ module _ (K : Cells) (ev : List ℕ) where
       let e : n - c ≡ suc (n - suc c) = omega arith in
       rows_pass c n (omega arith) p ∙ ap (verdict_from K ev c) e
 
-  pub all_pass : (n : ℕ) → Passed K ev n → Accepted ≡ verdict_from K ev 0 n
+  pub all_pass : (n : ℕ) → Passed K ev n → (Ok tt) ≡ verdict_from K ev 0 n
   unfolding row_grounds
   all_pass n p =
       let e : n - n ≡ 0 = omega arith in
       sym (rows_pass n n (omega arith) p ∙ ap (verdict_from K ev n) e)
 
   -- the first row at fault is named,
-  pub fault_named : {n : ℕ} {r : Refusal} → Fault K ev n r → Refused r ≡ verdict_from K ev 0 n
+  pub fault_named : {n : ℕ} {r : Refusal} → Fault K ev n r → Err r ≡ verdict_from K ev 0 n
   fault_named {n} (breaks_a c h p a) = sym (at_row c n h p ∙ row_breaks_a c (n - suc c) a)
   fault_named {n} (breaks_b c h p a b) = sym (at_row c n h p ∙ row_breaks_b c (n - suc c) a b)
 
@@ -108,7 +107,7 @@ module _ (K : Cells) (ev : List ℕ) where
           (λ a. fails (breaks_a n (omega arith) p a))
       go (fails f) = fails (fault_later f)
 
-  pub accepted_pass : (n : ℕ) → verdict_from K ev 0 n ≡ Accepted → Passed K ev n
+  pub accepted_pass : (n : ℕ) → verdict_from K ev 0 n ≡ Ok tt → Passed K ev n
   accepted_pass n e = go (outcome n)
     where
       go : Outcome K ev n → Passed K ev n
@@ -116,12 +115,12 @@ module _ (K : Cells) (ev : List ℕ) where
       go (fails f) = absurd (refused_not_accepted _ (fault_named f ∙ e))
 
   -- and what is named is the first row at fault
-  pub named_fault : (n : ℕ) (r : Refusal) → verdict_from K ev 0 n ≡ Refused r → Fault K ev n r
+  pub named_fault : (n : ℕ) (r : Refusal) → verdict_from K ev 0 n ≡ Err r → Fault K ev n r
   named_fault n r e = go (outcome n)
     where
       go : Outcome K ev n → Fault K ev n r
       go (passes p) = absurd (refused_not_accepted _ (sym (all_pass n p ∙ e)))
       go (fails {r = q} f) =
-          let both : Refused q ≡ Refused r = fault_named f ∙ e in
+          let both : Err q ≡ Err r = fault_named f ∙ e in
           let same : q ≡ r = cc in
           subst (Fault K ev n) same f

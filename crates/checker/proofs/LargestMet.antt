@@ -16,8 +16,7 @@ use Rattle.homology.specs.Cells.{Cells, Lawful, ◌⊻◌}
 use Rattle.homology.proofs.Marks.{⊻-off}
 use Rattle.counting.specs.Counting.{some_has}
 use Rattle.bitset.specs.Bits.{bits, member, toggled, LargestIs, full_width}
-use Rattle.bitset.specs.declared.LargestCell.{LargestCell}
-use Rattle.bitset.specs.declared.LargestCell.TheVariants.{Nothing, Cell}
+use Rattle.std.specs.Prelude.{Option, None, Some}
 use Rattle.table.specs.Kind.{capacity}
 use Rattle.rows.specs.Rows.{SetIs}
 use Rattle.rows.proofs.Sets.{set_largest, set_largest_empty}
@@ -93,6 +92,6 @@ module _ (K : Cells) (ev : List ℕ) where
   met_breaks_b c m ws e k on = looked_up c m ws e k ∙ ap not on
 
 -- the answer that names a set's largest member is the number of the row's largest boundary cell
-pub largest_number_lem : (K : Cells) (ev : List ℕ) → Lawful K → (c : ℕ) (ws : List ℕ) (r : LargestCell) → SetIs ws (row_boundary K ev c) → LargestIs ws r → largest_number r ≡ row_largest K ev c
-largest_number_lem K ev law c ws Nothing set h = sym (empty_largest (row_boundary K ev c) K.size (set_largest_empty ws set h))
-largest_number_lem K ev law c ws (Cell m) set h = sym (row_largest_said K ev law c m (set_largest ws m set h))
+pub largest_number_lem : (K : Cells) (ev : List ℕ) → Lawful K → (c : ℕ) (ws : List ℕ) (r : Option ℕ) → SetIs ws (row_boundary K ev c) → LargestIs ws r → largest_number r ≡ row_largest K ev c
+largest_number_lem K ev law c ws None set h = sym (empty_largest (row_boundary K ev c) K.size (set_largest_empty ws set h))
+largest_number_lem K ev law c ws (Some m) set h = sym (row_largest_said K ev law c m (set_largest ws m set h))

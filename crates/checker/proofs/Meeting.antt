@@ -14,7 +14,8 @@ use Rattle.homology.specs.Evidence.{RuleA, RuleB, Meets}
 use Rattle.homology.proofs.Marks.{clash}
 use Rattle.calls.specs.Calls.{verdict}
 use Rattle.calls.specs.declared.Refusal.TheVariants as refusals
-use Rattle.calls.specs.declared.Verdict.TheVariants.{Accepted}
+use Rattle.std.specs.declared.result.Result.TheVariants.{Ok}
+use Prim.{tt}
 use Rattle.rows.specs.Rows.{evidence_words, rows}
 use Rattle.checker.specs.Fault.{FirstBreaksA, FirstBreaksB}
 use Rattle.checker.specs.Check.{all_rows}
@@ -42,7 +43,7 @@ module _ (K : Cells) (ev : List ℕ) (law : Lawful K) (long : length ev ≡ evid
   pub passed_meets : Passed K ev K.size → Meets K (rows K ev)
   passed_meets p = let m = (passed_iff_lower K.size (omega arith)).0 p in record { rule_a = m.0; rule_b = m.1 }
 
-  pub rows_accepted_iff_rules : (verdict (all_rows K ev) ≡ Accepted) ↔ Meets K (rows K ev)
+  pub rows_accepted_iff_rules : (verdict (all_rows K ev) ≡ Ok tt) ↔ Meets K (rows K ev)
   rows_accepted_iff_rules = (
     λ e. passed_meets (accepted_pass K ev K.size e),
     λ m. sym (all_pass K ev K.size ((passed_iff_lower K.size (omega arith)).1 (m.rule_a, m.rule_b))),

@@ -3,12 +3,13 @@
 use mathlib.Core.Path.{◌≡◌, sym, ap, subst, ◌∙◌}
 use mathlib.Core.Bool.{Bool, true, ◌&&◌}
 use mathlib.Core.List.{List}
-use mathlib.Core.Logic.{by_cases}
-use Prim.Native.Nat.{ℕ, suc, ◌+◌, ◌-◌, ◌≤◌, ◌<◌}
-use native.Mathlib.Decide.{ℕ_discrete}
+use Prim.Native.Nat.{ℕ, zero, suc, ◌+◌, ◌-◌, ◌<◌}
+use Rattle.std.proofs.Common.{add-zero}
 use native.Mathlib.Omega.{arith}
+use denote.Param.Members.{Mut, Called}
+use Rattle.std.specs.Array.{IsFromFnResult, IsFromFnResultFrom}
 use lib.ListN.{length, get_or, set}
-use lib.Seq.{ext_get_or, get_or-set_same, get_or-set_other}
+use lib.Seq.{ext_get_or}
 use Rattle.counting.proofs.Cases.{and_both}
 use Rattle.counting.specs.Counting.{how_many, listed}
 use Rattle.counting.proofs.Tallies.{Tally, tally_counted, tally_skipped}
@@ -56,23 +57,22 @@ rows_counted K ev m n xs e k p h = k.each p h ∙ ap (λ (i : ℕ). how_many (is
 
 -- ---- the differences
 
--- the first p differences stand in their places
-pub record Differences (ns rs : List ℕ) (p : ℕ) (xs : List ℕ) : Type 0 where
-  pub each : (q : ℕ) → q < p → get_or xs q 0 ≡ get_or ns q 0 - get_or rs q 0 - get_or rs (q + 1) 0
+-- what a closure that computes h is called on, from place i on
+made_at : {F : Type 0} (g : Mut F (ℕ × Unit {0}) ℕ) (f : F) (h : ℕ → ℕ) (xs : List ℕ) → ((i y : ℕ) (q : F) → Called g f (i, tt) y q → (q ≡ f) × (y ≡ h i))
+    → (i n : ℕ) → IsFromFnResultFrom g f xs i n → (k : ℕ) → k < n → get_or xs (i + k) 0 ≡ h (i + k)
+made_at g f h xs is i zero made k l = absurd (omega arith)
+made_at g f h xs is i (suc n) made zero l = rw add-zero (made.2.1 0 ∙ (is i made.1 made.0 made.3).1)
+made_at g f h xs is i (suc n) made (suc k) l =
+    let same : made.0 ≡ f = (is i made.1 made.0 made.3).0 in
+    let later : i + suc k ≡ i + 1 + k = omega arith in
+    rw later (made_at g f h xs is (i + 1) n (subst (λ q. IsFromFnResultFrom g q xs (i + 1) n) same made.4) k (omega arith))
 
-pub differences_none : (ns rs xs : List ℕ) → Differences ns rs 0 xs
-differences_none ns rs xs = record { each = λ q l. absurd (omega arith) }
-
-pub differences_more : (ns rs xs : List ℕ) (p : ℕ) → p < length xs → Differences ns rs p xs → Differences ns rs (p + 1) (set xs p (get_or ns p 0 - get_or rs p 0 - get_or rs (p + 1) 0))
-differences_more ns rs xs p h k = record {
-  each = λ q l. by_cases (ℕ_discrete q p)
-      (λ e. subst (λ (i : ℕ). get_or (set xs p (get_or ns p 0 - get_or rs p 0 - get_or rs (p + 1) 0)) i 0 ≡ get_or ns i 0 - get_or rs i 0 - get_or rs (i + 1) 0) (sym e) (get_or-set_same xs p _ 0 h))
-      (λ ne. get_or-set_other xs p q _ 0 ne ∙ k.each q (omega arith));
-}
-
-pub differences_all : (ns rs xs : List ℕ) (p : ℕ) → length xs ≡ top + 1 → top + 1 ≤ p → Differences ns rs p xs → xs ≡ differences ns rs
+pub differences_made : {F : Type 0} (g : Mut F (ℕ × Unit {0}) ℕ) (f : F) (ns rs xs : List ℕ)
+    → ((i y : ℕ) (q : F) → Called g f (i, tt) y q → (q ≡ f) × (y ≡ get_or ns i 0 - get_or rs i 0 - get_or rs (i + 1) 0)) → IsFromFnResult g f xs (top + 1) → xs ≡ differences ns rs
 unfolding differences
-differences_all ns rs xs p long end k =
-    let f : ℕ → ℕ = λ q. get_or ns q 0 - get_or rs q 0 - get_or rs (q + 1) 0 in
-    ext_get_or 0 xs (listed (top + 1) f) (long ∙ sym (length_listed (top + 1) f))
-    (λ q h. k.each q (omega arith) ∙ sym (get_or_listed (top + 1) f q (omega arith)))
+differences_made g f ns rs xs is made =
+    let h : ℕ → ℕ = λ q. get_or ns q 0 - get_or rs q 0 - get_or rs (q + 1) 0 in
+    ext_get_or 0 xs (listed (top + 1) h) (made.long ∙ sym (length_listed (top + 1) h))
+    (λ q l. let inside : q < top + 1 = omega (arith, made.long) in
+    let here : 0 + q ≡ q = omega arith in
+    subst (λ (i : ℕ). get_or xs i 0 ≡ h i) here (made_at g f h xs is 0 (top + 1) made.each q inside) ∙ sym (get_or_listed (top + 1) h q inside))

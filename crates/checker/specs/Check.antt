@@ -1,7 +1,7 @@
 -- What the checker answers: rows are tested in rising number, rule A before rule B within a row, and the first that fails is named.
 -- The tests here are computed; that they are rules A and B as printed (`homology`) is proved in proofs/, and so is the meaning of the
 -- numbers. A reader must believe these definitions; nothing here is proved.
-use Rattle.std.specs.Prelude.{◌≡◌, Bool, ◌&&◌, ◌||◌, not, List, [], ◌∷◌, ℕ, zero, suc, ◌*◌, replicate, eqb, leb}
+use Rattle.std.specs.Prelude.{◌≡◌, Bool, ◌&&◌, ◌||◌, not, List, [], ◌∷◌, ℕ, zero, suc, ◌*◌, eqb, leb, Result, Ok, Err}
 use Rattle.homology.specs.Cells.{Cells}
 use Rattle.homology.specs.Holes.{Chain, boundary}
 use Rattle.homology.specs.Evidence.{cells_in, holes_in}
@@ -11,11 +11,12 @@ use Rattle.table.specs.Kind.{dimensions}
 use Rattle.audit.specs.Audit.{grounds_with}
 use Rattle.calls.specs.Calls.{Ground, verdict, on_verdict}
 use Rattle.calls.specs.declared.Refusal.TheVariants.{RuleA, RuleB}
-use Rattle.calls.specs.declared.Verdict.{Verdict}
+use Rattle.calls.specs.Calls.{Verdict}
 use Rattle.complex.specs.Cells.{cells}
 use Rattle.rows.specs.Rows.{row_width, rows}
 use Rattle.rows.specs.Lengths.{evidence_fits}
-use Rattle.checker.specs.declared.Checked.{Checked}
+use Rattle.checker.specs.declared.Counts.{Counts}
+use Rattle.calls.specs.declared.Refusal.{Refusal}
 
 -- rule A at number c: a member is at most c, live and of c's dimension, and c is live; a live cell is in its own row
 unfoldable pub keeps_a : Cells → List ℕ → ℕ → Bool
@@ -54,15 +55,13 @@ check_grounds t ev = grounds_with t (evidence_fits t ev) (all_rows (cells t) ev)
 unfoldable pub check_verdict : List ℕ → List ℕ → Verdict
 check_verdict t ev = verdict (check_grounds t ev)
 
--- seven numbers, one for each dimension, all 0 on a refusal
-abbrev pub per_dimension : Verdict → (ℕ → ℕ) → List ℕ
-per_dimension v f = on_verdict v (listed dimensions f) (λ r. replicate dimensions 0)
+-- the live cells and the hole numbers, seven of each
+abbrev pub counted : Cells → List ℕ → Counts
+counted K ev = record { cells = listed dimensions (cells_in K); holes = listed dimensions (holes_in K (rows K ev)) }
 
--- the answer with verdict v: the cells and the hole numbers beside it
-pub record Answered (K : Cells) (ev : List ℕ) (v : Verdict) (r : Checked) : Type 0 where
-  pub verdict_is : r.verdict ≡ v
-  pub cells_are : r.cells ≡ per_dimension v (cells_in K)
-  pub holes_are : r.holes ≡ per_dimension v (holes_in K (rows K ev))
+-- the answer with verdict v: the counts, or the refusal
+abbrev pub Answered : Cells → List ℕ → Verdict → Result Counts Refusal → Type 0
+Answered K ev v r = r ≡ on_verdict v (Ok (counted K ev)) Err
 
-abbrev pub Checks : List ℕ → List ℕ → Checked → Type 0
+abbrev pub Checks : List ℕ → List ℕ → Result Counts Refusal → Type 0
 Checks t ev r = Answered (cells t) ev (check_verdict t ev) r

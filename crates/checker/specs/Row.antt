@@ -1,15 +1,13 @@
 -- One row by itself, as the checker's inner functions see it: its words one by one, and what a row is found to be.
 -- Cited by the contracts of private functions alone, beside the definitions of Check.antt; nothing here is proved.
-use Rattle.std.specs.Prelude.{◌≡◌, Bool, true, false, ◌&&◌, ◌||◌, not, List, ℕ, suc, ◌+◌, ◌-◌, ◌*◌, ◌≤◌, ◌<◌, eqb, leb, ltb, length, get_or}
+use Rattle.std.specs.Prelude.{◌≡◌, Bool, true, false, ◌&&◌, ◌||◌, not, List, ℕ, suc, ◌+◌, ◌-◌, ◌*◌, ◌≤◌, ◌<◌, eqb, leb, ltb, length, get_or, Option, None, Some, Result, Ok, Err, ◌⊎◌}
 use Rattle.homology.specs.Cells.{Cells}
 use Rattle.bitset.specs.Bits.{bits, member, toggled, full_width}
-use Rattle.bitset.specs.declared.LargestCell.{LargestCell}
-use Rattle.bitset.specs.declared.LargestCell.TheVariants.{Nothing, Cell}
 use Rattle.table.specs.Kind.{capacity, top, dimensions}
 use Rattle.counting.specs.Counting.{all, listed}
 use Rattle.checker.specs.Check.{keeps_a, row_largest}
-use Rattle.checker.specs.declared.Finding.{Finding}
-use Rattle.checker.specs.declared.Finding.TheVariants.{BreaksA, BreaksB, Closed, Bounds}
+use Rattle.calls.specs.declared.Refusal.{Refusal}
+use Rattle.calls.specs.declared.Refusal.TheVariants.{RuleA, RuleB}
 
 -- rule A at number c, of the row's words
 unfoldable pub row_keeps : Cells → ℕ → List ℕ → Bool
@@ -28,16 +26,18 @@ pub record Lives (K : Cells) (c : ℕ) (ws : List ℕ) : Type 0 where
   pub each : (p s : ℕ) → p ≤ top → s < capacity → member ws (capacity * p + s) ≡ (ltb s c && (K.live s && eqb (K.dim s) p))
 
 -- a largest member as one number: one more than it, and 0 where there is none
-abbrev pub largest_number : LargestCell → ℕ
-largest_number Nothing = 0
-largest_number (Cell m) = suc m
+abbrev pub largest_number : Option ℕ → ℕ
+largest_number None = 0
+largest_number (Some m) = suc m
 
--- What row c is found to be, where the set of the largest cells met so far goes from xs to ys.
-abbrev pub Found : Cells → List ℕ → ℕ → List ℕ → List ℕ → Finding → Type 0
-Found K ev c xs ys BreaksA = keeps_a K ev c ≡ false
-Found K ev c xs ys BreaksB = (keeps_a K ev c ≡ true) × ((m : ℕ) × (row_largest K ev c ≡ suc m) × (member xs m ≡ true))
-Found K ev c xs ys Closed = (keeps_a K ev c ≡ true) × (row_largest K ev c ≡ 0) × (ys ≡ xs)
-Found K ev c xs ys Bounds =
+-- What row c is found to be, where the set of the largest cells met so far goes from xs to ys: it breaks a rule and is named, or it
+-- keeps both, and has a boundary or none.
+abbrev pub Found : Cells → List ℕ → ℕ → List ℕ → List ℕ → Result Bool Refusal → Type 0
+Found K ev c xs ys (Err r) =
+    ((r ≡ RuleA c) × (keeps_a K ev c ≡ false))
+    ⊎ ((r ≡ RuleB c) × (keeps_a K ev c ≡ true) × ((m : ℕ) × (row_largest K ev c ≡ suc m) × (member xs m ≡ true)))
+Found K ev c xs ys (Ok false) = (keeps_a K ev c ≡ true) × (row_largest K ev c ≡ 0) × (ys ≡ xs)
+Found K ev c xs ys (Ok true) =
     (keeps_a K ev c ≡ true) × ((m : ℕ) × (row_largest K ev c ≡ suc m) × (member xs m ≡ false) × (ys ≡ toggled xs m))
 
 -- counts for each dimension of which nothing is lost in the differences

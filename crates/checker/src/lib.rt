@@ -1,46 +1,33 @@
 // The checker of evidence for a hole count. It holds no array of rows, so that it runs on stations with little stack.
 #![tactic(auto)]
 
-ghost use Rattle.std.specs.Prelude.{◌≡◌, ◌+◌, ◌≤◌, ◌<◌, length, replicate};
-ghost use Rattle.table.specs.Kind.{dimensions};
+ghost use Rattle.std.specs.Prelude.{◌≡◌, ◌+◌, ◌≤◌, ◌<◌, length};
 ghost use Rattle.calls.specs.Calls.{verdict};
-ghost use Rattle.complex.specs.View.{view_of, Frame};
-ghost use Rattle.complex.specs.Cells.{cells};
 ghost use Rattle.bitset.specs.Bits.{full_width};
-ghost use Rattle.rows.specs.Rows.{evidence_words, RowLive};
+ghost use Rattle.rows.specs.Rows.{RowLive};
+ghost use Rattle.rows.specs.Seen.{cells_of};
 ghost use Rattle.checker.specs.Check.{Answered, Checks, all_rows, keeps_a, row_largest};
 ghost use Rattle.checker.specs.Row.{row_keeps, Lives, largest_number, Found, CountsFit, differences};
 
-use bitset::LargestCell;
-use calls::{Refusal, Verdict};
-use rows::view;
+use calls::Refusal;
+use rows::Evidence;
+use rows::view::View;
 use table::Table;
 
-// The verdict, and beside it for each dimension the live cells and the hole number; all 0 on a refusal.
-#[derive(Drop)]
-pub struct Checked {
-    pub verdict: Verdict,
+// For each dimension the live cells and the hole number.
+#[derive(Clone, Copy)]
+pub struct Counts {
     pub cells: [u16; Table::DIMENSIONS],
     pub holes: [u16; Table::DIMENSIONS],
 }
 
-// What a row is found to be: it breaks a rule, or keeps both, with an empty boundary or not.
-#[derive(Drop)]
-enum Finding {
-    BreaksA,
-    BreaksB,
-    Closed,
-    Bounds,
-}
-
 // Puts number c, where it is live, into the set of its dimension; the seven sets stand one after another.
-fn add_live(t: &[u16], c: usize, lives: &mut [u64])
-    requires frame { Frame (view_of t.now) }
-    requires c_bound { c < (cells t.now).size }
-    requires lives { Lives (cells t.now) c lives.old }
-    ensures { Lives (cells t.now) (c + 1) lives.new }
+fn add_live(view: View<'_>, c: usize, lives: &mut [u64])
+    requires c_bound { c < (cells_of view).size }
+    requires lives { Lives (cells_of view) c lives.old }
+    ensures { Lives (cells_of view.entry) (c + 1) lives.new }
 {
-    let p = view::dim(t, c);
+    let p = view.dim(c);
     if p < Table::DIMENSIONS {
         bitset::toggle(lives, Table::CAPACITY * p + c);
     }
@@ -48,14 +35,13 @@ fn add_live(t: &[u16], c: usize, lives: &mut [u64])
 
 // Rule A at number c, of the row's words: a free number's row is empty; a live cell is in its own row, and the row lies within the
 // live cells of its dimension up to c.
-fn row_keeps(t: &[u16], c: usize, row: &[u64], lives: &[u64]) -> bool
-    requires frame { Frame (view_of t.now) }
-    requires c_bound { c < (cells t.now).size }
+fn row_keeps(view: View<'_>, c: usize, row: &[u64], lives: &[u64]) -> bool
+    requires c_bound { c < (cells_of view).size }
     requires row_len_bound { length row.now ≤ full_width }
-    requires lives { Lives (cells t.now) (c + 1) lives.now }
-    ensures { result ≡ row_keeps (cells t.now) c row.now }
+    requires lives { Lives (cells_of view) (c + 1) lives.now }
+    ensures { result ≡ row_keeps (cells_of view.entry) c row.now }
 {
-    let p = view::dim(t, c);
+    let p = view.dim(c);
     if p >= Table::DIMENSIONS {
         return bitset::is_empty(row);
     }
@@ -66,57 +52,51 @@ fn row_keeps(t: &[u16], c: usize, row: &[u64], lives: &[u64]) -> bool
 }
 
 // Rule A at number c.
-fn keeps_a(t: &[u16], evidence: &[u64], c: usize, lives: &[u64]) -> bool
-    requires frame { Frame (view_of t.now) }
-    requires evidence_len { length evidence.now ≡ evidence_words (cells t.now) }
-    requires c_bound { c < (cells t.now).size }
-    requires lives { Lives (cells t.now) (c + 1) lives.now }
-    ensures { result ≡ keeps_a (cells t.now) evidence.now c }
+fn keeps_a(evidence: Evidence<'_>, c: usize, lives: &[u64]) -> bool
+    requires c_bound { c < (cells_of evidence.view).size }
+    requires lives { Lives (cells_of evidence.view) (c + 1) lives.now }
+    ensures { result ≡ keeps_a (cells_of evidence.entry.view) evidence.entry.words.now c }
 {
-    row_keeps(t, c, rows::row(t, evidence, c), lives)
+    row_keeps(evidence.view, c, evidence.row(c), lives)
 }
 
 // The largest cell of the boundary of row c, whose cells are live.
-fn row_largest(t: &[u16], evidence: &[u64], c: usize) -> LargestCell
-    requires frame { Frame (view_of t.now) }
-    requires evidence_len { length evidence.now ≡ evidence_words (cells t.now) }
-    requires c_bound { c < (cells t.now).size }
-    requires row_live { RowLive (cells t.now) evidence.now c }
-    ensures { largest_number result ≡ row_largest (cells t.now) evidence.now c }
+fn row_largest(evidence: Evidence<'_>, c: usize) -> Option<usize>
+    requires c_bound { c < (cells_of evidence.view).size }
+    requires row_live { RowLive (cells_of evidence.view) evidence.words.now c }
+    ensures { largest_number result ≡ row_largest (cells_of evidence.entry.view) evidence.entry.words.now c }
 {
-    let b = rows::row_boundary(t, evidence, c);
-    bitset::largest(&b)
+    bitset::largest(&evidence.row_boundary(c))
 }
 
-// Tests row c by rule A, then by rule B against the largest cells met so far, and puts its own among them. The row of a free number
-// or of a point has no boundary, since no cell in it has a face.
-fn take_row(t: &[u16], evidence: &[u64], c: usize, met: &mut [u64], lives: &[u64]) -> Finding
-    requires frame { Frame (view_of t.now) }
-    requires evidence_len { length evidence.now ≡ evidence_words (cells t.now) }
-    requires c_bound { c < (cells t.now).size }
+// Tests row c by rule A, then by rule B against the largest cells met so far, puts its own among them, and tells whether it has a
+// boundary. The row of a free number or of a point has none, since no cell in it has a face.
+fn take_row(
+    evidence: Evidence<'_>,
+    c: usize,
+    met: &mut [u64],
+    lives: &[u64],
+) -> Result<bool, Refusal>
+    requires c_bound { c < (cells_of evidence.view).size }
     requires met_len { length met.old ≡ full_width }
-    requires lives { Lives (cells t.now) (c + 1) lives.now }
-    ensures { Found (cells t.now) evidence.now c met.old met.new result }
+    requires lives { Lives (cells_of evidence.view) (c + 1) lives.now }
+    ensures { Found (cells_of evidence.entry.view) evidence.entry.words.now c met.old met.new result }
 {
-    if !keeps_a(t, evidence, c, lives) {
-        return Finding::BreaksA;
+    if !keeps_a(evidence, c, lives) {
+        return Err(Refusal::RuleA(c as u16));
     }
-    let p = view::dim(t, c);
-    if p == 0 {
-        return Finding::Closed;
+    let p = evidence.view.dim(c);
+    if p == 0 || p >= Table::DIMENSIONS {
+        return Ok(false);
     }
-    if p >= Table::DIMENSIONS {
-        return Finding::Closed;
-    }
-    let largest = row_largest(t, evidence, c);
-    match largest {
-        LargestCell::Nothing => Finding::Closed,
-        LargestCell::Cell(m) => {
+    match row_largest(evidence, c) {
+        None => Ok(false),
+        Some(m) => {
             if bitset::has(met, m) {
-                return Finding::BreaksB;
+                return Err(Refusal::RuleB(c as u16));
             }
             bitset::toggle(met, m);
-            Finding::Bounds
+            Ok(true)
         }
     }
 }
@@ -126,76 +106,39 @@ fn holes_of(cells: &[u16], bounding: &[u16]) -> [u16; Table::DIMENSIONS]
     requires { CountsFit cells.now bounding.now }
     ensures { result ≡ differences cells.now bounding.now }
 {
-    let mut holes = [0; Table::DIMENSIONS];
-    let mut p = 0;
-    while p < Table::DIMENSIONS {
-        holes[p] = cells[p] - bounding[p] - bounding[p + 1];
-        p += 1;
-    }
-    holes
-}
-
-// The answer of a refusal.
-fn refused(r: Refusal) -> Checked
-    ensures verdict_value { result.verdict ≡ Verdict.Refused r }
-    ensures cells_value { result.cells ≡ replicate dimensions 0 }
-    ensures holes_value { result.holes ≡ replicate dimensions 0 }
-{
-    Checked {
-        verdict: Verdict::Refused(r),
-        cells: [0; Table::DIMENSIONS],
-        holes: [0; Table::DIMENSIONS],
-    }
+    std::array::from_fn(|p| cells[p] - bounding[p] - bounding[p + 1])
 }
 
 // Goes through the rows in rising number and counts, for each dimension, those with a boundary.
-fn check_rows(t: &[u16], evidence: &[u64]) -> Checked
-    requires frame { Frame (view_of t.now) }
-    requires evidence_len { length evidence.now ≡ evidence_words (cells t.now) }
-    ensures { Answered (cells t.now) evidence.now (verdict (all_rows (cells t.now) evidence.now)) result }
+fn check_rows(evidence: Evidence<'_>) -> Result<Counts, Refusal>
+    ensures { Answered (cells_of evidence.entry.view) evidence.entry.words.now (verdict (all_rows (cells_of evidence.entry.view) evidence.entry.words.now)) result }
 {
-    let n = view::size(t);
+    let view = evidence.view;
     let mut met = [0; bitset::FULL];
     let mut lives = [0; Table::DIMENSIONS * bitset::FULL];
     let mut bounding = [0; Table::DIMENSIONS + 1];
-    let mut c = 0;
-    while c < n {
-        add_live(t, c, &mut lives);
-        let found = take_row(t, evidence, c, &mut met, &lives);
-        match found {
-            Finding::BreaksA => {
-                return refused(Refusal::RuleA(c as u16));
-            }
-            Finding::BreaksB => {
-                return refused(Refusal::RuleB(c as u16));
-            }
-            Finding::Closed => {}
-            Finding::Bounds => {
-                let p = view::dim(t, c);
-                bounding[p] += 1;
-            }
+    for c in 0..view.size() {
+        add_live(view, c, &mut lives);
+        if take_row(evidence, c, &mut met, &lives)? {
+            bounding[view.dim(c)] += 1;
         }
-        c += 1;
     }
-    let cells = view::census(t);
+    let cells = view.census();
     let holes = holes_of(&cells, &bounding);
-    Checked {
-        verdict: Verdict::Accepted,
-        cells: cells,
-        holes: holes,
-    }
+    Ok(Counts { cells, holes })
 }
 
 // Tests the evidence by rules A and B. Refused with 1, 2, then 13 or 14 with the first row at fault.
-pub fn check(t: &[u16], evidence: &[u64]) -> Checked
+pub fn check<'a>(t: &'a [u16], evidence: &'a [u64]) -> Result<Counts, Refusal>
     ensures { Checks t.now evidence.now result }
 {
     if !rows::lengths_fit(t, evidence) {
-        return refused(Refusal::Length);
+        return Err(Refusal::Length);
     }
-    let valid = audit::audit(t);
-    match valid {
-        Verdict::Accepted => check_rows(t, evidence),
-        Verdict::Refused(r) => refused(r),
-    }
+    audit::audit(t)?;
+    let view = View { words: t };
+    check_rows(Evidence {
+        view,
+        words: evidence,
+    })
 }

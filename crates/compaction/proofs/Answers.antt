@@ -15,8 +15,9 @@ use Rattle.table.specs.Table.{cells_of, Valid, sized}
 use Rattle.calls.specs.Calls.{verdict, leaves}
 use Rattle.calls.specs.declared.Refusal.{Refusal}
 use Rattle.calls.specs.declared.Refusal.TheVariants.{Length}
-use Rattle.calls.specs.declared.Verdict.{Verdict}
-use Rattle.calls.specs.declared.Verdict.TheVariants.{Accepted, Refused}
+use Rattle.calls.specs.Calls.{Verdict}
+use Rattle.std.specs.declared.result.Result.TheVariants.{Ok, Err}
+use Prim.{tt}
 use Rattle.calls.proofs.Grounds.{accepted_none_applies, none_applies_accepted}
 use Rattle.audit.specs.Audit.{sound, audit_grounds}
 use Rattle.audit.proofs.Valid.{sound_is_valid, valid_is_sound, valid_is_sized}
@@ -44,7 +45,7 @@ module _ (t list : List ℕ) where
   fit = eqb (length list) (cells_of t)
 
   -- a list of another length is refused, on any table; else the audit decides
-  pub refuses_length : (length list ≡ cells_of t → ⊥) → Refused Length ≡ compact_verdict t list
+  pub refuses_length : (length list ≡ cells_of t → ⊥) → Err Length ≡ compact_verdict t list
   unfolding compact_verdict
   refuses_length other = simp (ne_eqb (length list) (cells_of t) other, &&-off (sized t))
 
@@ -53,14 +54,14 @@ module _ (t list : List ℕ) where
   as_audited e = simp (eq-eqb (length list) (cells_of t) e, and_on (sized t))
 
   -- a valid table, with a list of its length, is accepted
-  pub compact_accepts : Valid t → length list ≡ cells_of t → compact_verdict t list ≡ Accepted
+  pub compact_accepts : Valid t → length list ≡ cells_of t → compact_verdict t list ≡ Ok tt
   unfolding compact_verdict
   compact_accepts v e =
       none_applies_accepted (compact_grounds t list)
       (ap not (and_both (sized t) fit (valid_is_sized t v) (eq-eqb (length list) (cells_of t) e)), (ap not (valid_is_sound t v), tt))
 
   -- a refusal leaves both buffers
-  pub refused_ends : (r : Refusal) → compact_verdict t list ≡ Refused r → Compacts t list (Refused r) t list
+  pub refused_ends : (r : Refusal) → compact_verdict t list ≡ Err r → Compacts t list (Err r) t list
   refused_ends r why =
       record {
         answer = sym why;
@@ -69,7 +70,7 @@ module _ (t list : List ℕ) where
       }
 
   -- acceptance
-  module _ (yes : compact_verdict t list ≡ Accepted) where
+  module _ (yes : compact_verdict t list ≡ Ok tt) where
     both_on : (sized t && fit ≡ true) × (sound t ≡ true)
     unfolding compact_verdict
     both_on =
@@ -86,7 +87,7 @@ module _ (t list : List ℕ) where
     accepted_leaves =
         subst (IsCompaction t (new_number t)) (sym (ap (λ v. leaves v (compacted t) t) yes)) (compacted_is_compaction t accepted_valid)
 
-    pub accepted_ends : (u l : List ℕ) → u ≡ compacted t → l ≡ new_numbers t → Compacts t list Accepted u l
+    pub accepted_ends : (u l : List ℕ) → u ≡ compacted t → l ≡ new_numbers t → Compacts t list (Ok tt) u l
     accepted_ends u l e f =
         record {
           answer = sym yes;
@@ -99,8 +100,8 @@ module _ (t list : List ℕ) where
   compact_leaves_valid valid = go (compact_verdict t list)
     where
       go : (v : Verdict) → Valid (leaves v (compacted t) t)
-      go Accepted = compaction_valid t (new_number t) (compacted t) valid (compacted_is_compaction t valid)
-      go (Refused r) = valid
+      go (Ok tt) = compaction_valid t (new_number t) (compacted t) valid (compacted_is_compaction t valid)
+      go (Err r) = valid
 
 -- two permitted outcomes are equal
 pub one_compaction_outcome :

@@ -17,8 +17,9 @@ use Rattle.homology.specs.Holes.{IsHoleNumber}
 use Rattle.complex.specs.Cells.{cells}
 use Rattle.reading.specs.Incidence.{incidence_answer}
 use Rattle.calls.specs.Calls.{leaves}
-use Rattle.calls.specs.declared.Verdict.{Verdict}
-use Rattle.calls.specs.declared.Verdict.TheVariants.{Accepted, Refused}
+use Rattle.calls.specs.Calls.{Verdict}
+use Rattle.std.specs.declared.result.Result.TheVariants.{Ok, Err}
+use Prim.{tt}
 use Rattle.compaction.specs.Compaction.{IsCompaction}
 use Rattle.compaction.specs.Made.{new_number, new_numbers, compacted}
 use Rattle.compaction.specs.Call.{compact_verdict, Compacts, number_in}
@@ -39,8 +40,8 @@ numbers_in t c =
     ∙ sym (new_free t c (λ l. omega (arith, l.inside))))
     (below_or_not c (cells_of t))
 
-module _ (t list t' list' : List ℕ) (call : Compacts t list Accepted t' list') where
-  yes : compact_verdict t list ≡ Accepted
+module _ (t list t' list' : List ℕ) (call : Compacts t list (Ok tt) t' list') where
+  yes : compact_verdict t list ≡ Ok tt
   yes = sym call.answer
 
   valid : Valid t
@@ -73,11 +74,11 @@ module _ (t list t' list' : List ℕ) (call : Compacts t list Accepted t' list')
   second_call_changes_nothing l u l' r second = second.table ∙ go (compact_verdict t' l)
     where
       go : (v : Verdict) → leaves v (compacted t') t' ≡ t'
-      go Accepted = second_changes_nothing t (number_in list') t' valid call_is_compaction
-      go (Refused x) = refl
+      go (Ok tt) = second_changes_nothing t (number_in list') t' valid call_is_compaction
+      go (Err x) = refl
 
   -- An accepted one lists each cell's own number.
-  pub second_call_lists_itself : (l u l' : List ℕ) → Compacts t' l Accepted u l' → (c : ℕ) → number_in l' c ≡ pick (live t' c) c free_mark
+  pub second_call_lists_itself : (l u l' : List ℕ) → Compacts t' l (Ok tt) u l' → (c : ℕ) → number_in l' c ≡ pick (live t' c) c free_mark
   second_call_lists_itself l u l' second c =
       ap (λ xs. number_in xs c) (second.numbers ∙ ap (λ v. leaves v (new_numbers t') l) (sym second.answer))
       ∙ numbers_in t' c

@@ -14,11 +14,11 @@ use Rattle.counting.proofs.Cases.{true_or_false, and_left, and_right, not_true_f
 use Rattle.table.specs.Table.{dim, face, Live, live, Valid}
 use Rattle.calls.specs.Calls.{verdict, on_verdict}
 use Rattle.calls.specs.declared.Refusal.TheVariants.{NotLive, DimensionsDiffer}
-use Rattle.calls.specs.declared.Verdict.{Verdict}
-use Rattle.calls.specs.declared.Verdict.TheVariants.{Accepted, Refused}
+use Rattle.calls.specs.Calls.{Verdict}
+use Rattle.std.specs.declared.result.Result.TheVariants.{Ok, Err}
+use Prim.{tt}
 use Rattle.table.proofs.Records.{live_true, live_says, live_or_not}
 use Rattle.audit.proofs.Valid.{valid_is_sound, valid_is_sized}
-use Rattle.reading.specs.declared.Sum.TheVariants.{Is, NoSum}
 use Rattle.reading.specs.Sums.{sum_to, sign}
 use Rattle.reading.specs.Incidence.{incidence_of, incidence_grounds, incidence_answer}
 use Rattle.compaction.specs.Compaction.{IsCompaction}
@@ -31,12 +31,12 @@ sum_below zero f g h = refl
 sum_below (suc n) f g h = ap₂ ◌+ℤ◌ (sum_below n f g (λ j l. h j (omega arith))) (h n (omega arith))
 
 -- what a valid table answers: where one of the two is not live, and where both are
-not_live_answer : (t : List ℕ) (c s : ℕ) → Valid t → live t c && live t s ≡ false → incidence_answer t c s ≡ NoSum NotLive
+not_live_answer : (t : List ℕ) (c s : ℕ) → Valid t → live t c && live t s ≡ false → incidence_answer t c s ≡ Err NotLive
 not_live_answer t c s v e = simp (valid_is_sized t v, valid_is_sound t v, e)
 
 dims_decide :
     (t : List ℕ) (c s : ℕ) → Valid t → Live t c → Live t s →
-    verdict (incidence_grounds t c s) ≡ pick (not (eqb (dim t c) (suc (dim t s)))) (Refused DimensionsDiffer) Accepted
+    verdict (incidence_grounds t c s) ≡ pick (not (eqb (dim t c) (suc (dim t s)))) (Err DimensionsDiffer) (Ok tt)
 dims_decide t c s v l k = simp (valid_is_sized t v, valid_is_sound t v, live_says t c l, live_says t s k)
 
 module _ (t : List ℕ) (ν : ℕ → ℕ) (u : List ℕ) (valid : Valid t) (x : IsCompaction t ν u) where
@@ -53,11 +53,11 @@ module _ (t : List ℕ) (ν : ℕ → ℕ) (u : List ℕ) (valid : Valid t) (x :
     same_verdict : verdict (incidence_grounds u (ν c) (ν s)) ≡ verdict (incidence_grounds t c s)
     same_verdict =
         dims_decide u (ν c) (ν s) (compaction_valid t ν u valid x) (live_there t ν u valid x c l) (live_there t ν u valid x s k)
-        ∙ ap₂ (λ p q. pick (not (eqb p (suc q))) (Refused DimensionsDiffer) Accepted) (x.kept_dim c l) (x.kept_dim s k)
+        ∙ ap₂ (λ p q. pick (not (eqb p (suc q))) (Err DimensionsDiffer) (Ok tt)) (x.kept_dim c l) (x.kept_dim s k)
         ∙ sym (dims_decide t c s valid l k)
 
     live_answer : incidence_answer u (ν c) (ν s) ≡ incidence_answer t c s
-    live_answer = ap₂ (λ (v : Verdict) (z : ℤ). on_verdict v (Is z) NoSum) same_verdict same_incidence
+    live_answer = ap₂ (λ (v : Verdict) (z : ℤ). on_verdict v (Ok z) Err) same_verdict same_incidence
 
   -- a number is live exactly where its new one is
   same_live : (c : ℕ) → live u (ν c) ≡ live t c

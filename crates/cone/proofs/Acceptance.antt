@@ -5,7 +5,7 @@ use mathlib.Core.Bool.{Bool, true, false, ◌&&◌, not, false≢true}
 use mathlib.Core.List.{List}
 use mathlib.Core.Logic.{⊎_elim}
 use Prim.{tt}
-use Prim.Native.Nat.{ℕ, ◌*◌, ◌≤◌, ◌<◌}
+use Prim.Native.Nat.{ℕ, ◌-◌, ◌*◌, ◌≤◌, ◌<◌}
 use native.Mathlib.Omega.{arith}
 use borrow.Author.Tests.{eq-eqb, ne_eqb, eqb-true, eqb-false, ltb-false, le-ltb, not-false}
 use lib.ListN.{length}
@@ -15,13 +15,15 @@ use Rattle.bitset.proofs.Marks.{mark_past}
 use Rattle.table.specs.Kind.{top, used}
 use Rattle.table.specs.Table.{cells_of, dim, face, Live, live, Valid, sized}
 use Rattle.audit.specs.Audit.{sound}
-use Rattle.calls.specs.declared.Verdict.TheVariants.{Accepted}
+use Rattle.std.specs.declared.result.Result.TheVariants.{Ok}
+use Prim.{tt}
 use Rattle.table.proofs.Records.{live_says, live_true}
 use Rattle.audit.proofs.Valid.{sound_is_valid, valid_is_sound, valid_is_sized}
 use Rattle.counting.specs.Counting.{how_many, some_has}
 use Rattle.cone.specs.Cone.{free, new_cells, marked_not_live, not_closed, top_marked, no_room, cone_grounds, cone_verdict}
 use Rattle.counting.proofs.Cases.{below_or_not, and_both, and_left, and_right}
 use Rattle.counting.proofs.Counting.{some_has_each, some_has_none}
+use Rattle.cone.specs.Parts.{MarkedBelow}
 use Rattle.calls.proofs.Grounds.{accepted_none_applies, none_applies_accepted}
 
 -- The table is valid, the marks have its length, every marked number is a live cell, every face of a marked cell is marked, no
@@ -33,6 +35,19 @@ pub record Accepts (t marks : List ℕ) : Type 0 where
   pub closed : (c j : ℕ) → member marks c ≡ true → j < used (dim t c) → member marks (face t c j) ≡ true
   pub below_top : (c : ℕ) → member marks c ≡ true → dim t c < top
   pub room : new_cells t marks ≤ how_many (free t) (cells_of t)
+
+-- nothing is marked from e on, and e lies in the table or just after it: a pass over the marked cells can stop there
+pub record MarksEnd (t marks : List ℕ) (e : ℕ) : Type 0 where
+  pub inside : e ≤ cells_of t
+  pub none : (s : ℕ) → e ≤ s → member marks s ≡ false
+
+-- the last mark is on a live cell, so the marks end in the table
+pub ends_inside : (t marks : List ℕ) (e : ℕ) → ((c : ℕ) → member marks c ≡ true → Live t c) → MarkedBelow marks e → MarksEnd t marks e
+ends_inside t marks e live b =
+    record {
+      inside = ⊎_elim (λ l. omega (arith, (live (e - 1) (b.last l)).inside)) (λ l. omega arith) (below_or_not 0 e);
+      none = b.none;
+    }
 
 -- a test that holds of c, beside one that must not
 both_fail : (a b : Bool) → (a && b) ≡ false → a ≡ true → b ≡ false
@@ -108,7 +123,7 @@ module _ (t marks : List ℕ) where
   unfolding no_room
   left_room h = le-ltb (how_many (free t) (cells_of t)) (new_cells t marks) h
 
-  pub cone_accepted : cone_verdict t marks ≡ Accepted → Accepts t marks
+  pub cone_accepted : cone_verdict t marks ≡ Ok tt → Accepts t marks
   unfolding cone_verdict
   cone_accepted e =
       let k = accepted_none_applies (cone_grounds t marks) e in
@@ -125,7 +140,7 @@ module _ (t marks : List ℕ) where
         room = room_left k.1.1.1.1.1.0;
       }
 
-  accepts_cone : Accepts t marks → cone_verdict t marks ≡ Accepted
+  accepts_cone : Accepts t marks → cone_verdict t marks ≡ Ok tt
   unfolding cone_verdict
   accepts_cone a =
       none_applies_accepted (cone_grounds t marks) (

@@ -11,13 +11,14 @@ use native.Mathlib.Omega.{arith}
 use lib.ListN.{length}
 use lib.Dec.{eqb}
 use Rattle.bitset.specs.Bits.{bits, member, LargestIs, IsLargestIn}
-use Rattle.bitset.specs.declared.LargestCell.TheVariants.{Nothing}
+use Rattle.std.specs.Prelude.{None}
 use Rattle.bitset.proofs.Marks.{true_member, false_member}
 use Rattle.table.specs.Kind.{top, used}
 use Rattle.table.specs.Table.{cells_of, dim, live}
 use Rattle.calls.specs.Calls.{verdict}
 use Rattle.calls.specs.declared.Refusal.TheVariants.{NotLive, NotClosed, TopMarked}
-use Rattle.calls.specs.declared.Verdict.TheVariants.{Accepted, Refused}
+use Rattle.std.specs.declared.result.Result.TheVariants.{Ok, Err}
+use Prim.{tt}
 use Rattle.counting.proofs.Cases.{below_or_not}
 use Rattle.table.proofs.Records.{outside_dead}
 use Rattle.counting.specs.Counting.{some_has, pick}
@@ -45,7 +46,7 @@ module _ (f : ℕ → Bool) where
 
 module _ (marks : List ℕ) where
   -- the largest mark is the last
-  pub none_marked : LargestIs marks Nothing → MarkedBelow marks 0
+  pub none_marked : LargestIs marks None → MarkedBelow marks 0
   none_marked h = record { inside = omega arith; last = λ l. absurd (omega arith); none = λ s l. false_member marks s (h s) }
 
   pub last_marked : (m : ℕ) → IsLargestIn marks m → MarkedBelow marks (m + 1)
@@ -109,17 +110,17 @@ module _ (t marks : List ℕ) where
         }
 
   -- a mark on no live cell refuses, and so does a last mark past the cells
-  pub dead_refused : (c : ℕ) → member marks c ≡ true → live t c ≡ false → Refused NotLive ≡ verdict (mark_grounds t marks)
+  pub dead_refused : (c : ℕ) → member marks c ≡ true → live t c ≡ false → Err NotLive ≡ verdict (mark_grounds t marks)
   unfolding marked_not_live
   dead_refused c e d =
       sym (rw (some_has_at (marked_has marks dead) (bits * length marks) c (member_inside marks c e) (rw (e, d))))
 
-  pub past_refused : (e : ℕ) → MarkedBelow marks e → cells_of t < e → Refused NotLive ≡ verdict (mark_grounds t marks)
+  pub past_refused : (e : ℕ) → MarkedBelow marks e → cells_of t < e → Err NotLive ≡ verdict (mark_grounds t marks)
   past_refused e m h = dead_refused (e - 1) (m.last (omega arith)) (sym (outside_dead t (e - 1) (omega arith)))
 
   -- past the last mark the flags decide
   abbrev pub Decides : Bool → Bool → Type 0
-  Decides leaks tops = verdict (mark_grounds t marks) ≡ pick leaks (Refused NotClosed) (pick tops (Refused TopMarked) Accepted)
+  Decides leaks tops = verdict (mark_grounds t marks) ≡ pick leaks (Err NotClosed) (pick tops (Err TopMarked) (Ok tt))
 
   pub pass_ends : (c e : ℕ) (leaks tops : Bool) → c ≡ e → MarkedBelow marks e → e ≤ cells_of t → Passed c leaks tops → Decides leaks tops
   unfolding marked_not_live not_closed top_marked

@@ -11,11 +11,11 @@ use lib.ListN.{length, get_or, set, replicate, get_or-replicate}
 use lib.Seq.{get_or-set_same, get_or-set_other}
 use lib.Dec.{ltb, eqb}
 use Rattle.counting.specs.Counting.{pick}
-use Rattle.table.specs.Kind.{capacity, top, faces, free_mark, used}
-use Rattle.table.specs.Table.{dim, faces_of}
+use Rattle.table.specs.Kind.{top, faces, free_mark, used}
+use Rattle.table.specs.Table.{dim}
 use Rattle.counting.proofs.Cases.{below_or_not, same_or_other}
-use Rattle.table.proofs.Records.{faces_at}
 use Rattle.table.proofs.Stores.{up_to}
+use Rattle.cone.specs.declared.numbers.Numbers.{Numbers}
 use Rattle.cone.specs.Parts.{over_face, Coneable}
 
 -- what lies below k lies below k + 1, and only k lies between
@@ -34,14 +34,9 @@ used_most zero low = omega arith
 used_most (suc p) low = omega (arith, used_suc p low)
 
 -- a cell that has room for a cone has few faces, and those that were read are entries
-module _ (t ns : List ℕ) (s u : ℕ) (ok : Coneable t ns s) (is : u ≡ used (dim t s)) where
+module _ (t : List ℕ) (ns : Numbers) (s u : ℕ) (ok : Coneable t ns s) (is : u ≡ used (dim t s)) where
   pub few_sides : u ≤ faces
   few_sides = omega (arith, used_most (dim t s) ok.low, ok.low)
-
-  pub side_entry : (f : List ℕ) (j : ℕ) → f ≡ faces_of t s → j < u → get_or f j 0 < capacity
-  side_entry f j e h =
-      let place : j < used (dim t s) = omega arith in
-      omega (arith, faces_at t s f e j (omega (arith, few_sides)), ok.sides j place)
 
 -- a side matters at a used place alone
 pub used_side : (p s apex : ℕ) (side side' : ℕ → ℕ) (j : ℕ) → p < top → (j < used p → side j ≡ side' j) → over_face p s apex side j ≡ over_face p s apex side' j

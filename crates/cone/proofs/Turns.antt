@@ -4,7 +4,7 @@
 use mathlib.Core.Path.{◌≡◌, refl, ap, ◌∙◌}
 use mathlib.Core.Bool.{true, false}
 use mathlib.Core.List.{List}
-use Prim.Native.Nat.{ℕ, suc, ◌+◌, ◌/◌, ◌<◌}
+use Prim.Native.Nat.{ℕ, suc, ◌+◌, ◌/◌, ◌≤◌, ◌<◌}
 use native.Mathlib.Omega.{arith}
 use lib.ListN.{length, get_or, replicate, get_or-replicate}
 use Rattle.bitset.specs.Bits.{member}
@@ -16,8 +16,9 @@ use Rattle.table.proofs.Records.{live_says}
 use Rattle.counting.specs.Counting.{how_many}
 use Rattle.counting.proofs.Counting.{how_many_zero, how_many_no_more}
 use Rattle.cone.specs.Cone.{apex_of, cone_of, cone_face, coned}
-use Rattle.cone.specs.Parts.{MarksEnd, over_face, face_by, record_by, Coneable, ConeStored, Ready}
-use Rattle.cone.proofs.Acceptance.{Accepts, cone_accepted}
+use Rattle.cone.specs.declared.numbers.Numbers.{Numbers}
+use Rattle.cone.specs.Parts.{MarkedBelow, over_face, face_by, record_by, Coneable, ConeStored, Ready}
+use Rattle.cone.proofs.Acceptance.{Accepts, MarksEnd, ends_inside, cone_accepted}
 use Rattle.cone.proofs.GivenNumbers.{free_inside, apex_is_free, cone_is_free}
 use Rattle.cone.proofs.Numbering.{marks_counted}
 use Rattle.cone.proofs.Sides.{used_most, used_side}
@@ -27,9 +28,16 @@ pub record Raised (t marks u : List ℕ) (s : ℕ) : Type 0 where
   pub size : length u ≡ length t
   pub state : u ≡ partly t marks (cones_to t marks (1 + how_many (member marks) s))
 
-module _ (t marks ns : List ℕ) (apex : ℕ) (ready : Ready t marks apex ns) where
+module _ (t marks : List ℕ) (ns : Numbers) (ready : Ready t marks ns) where
   a : Accepts t marks
   a = cone_accepted t marks ready.accepted
+
+  -- the marks have a length that is asked for, and end in the table
+  pub words_fit : length marks ≤ capacity
+  words_fit = omega (arith, a.words, a.valid.sized.room)
+
+  pub ends : (e : ℕ) → MarkedBelow marks e → MarksEnd t marks e
+  ends e b = ends_inside t marks e a.marked_live b
 
   pub raised_starts : Raised t marks t 0
   raised_starts =
@@ -73,7 +81,6 @@ module _ (t marks ns : List ℕ) (apex : ℕ) (ready : Ready t marks apex ns) wh
               inside = omega (arith, cells_kept);
               few = omega (arith, cells_kept, a.valid.sized.room);
               low = omega (arith, dim_kept, low);
-              size = ready.size;
               sides = λ j h. side_inside j (rw (dim_kept) at h);
               place =
                   omega (arith, ready.numbers s marked, free_inside t (cone_of t marks s) (cone_is_free t marks a s marked), cells_kept);
@@ -84,20 +91,20 @@ module _ (t marks ns : List ℕ) (apex : ℕ) (ready : Ready t marks apex ns) wh
         unfolding over_face cone_face
         over_is_cone_face j = refl
 
-        faces_right : (j : ℕ) → j < faces → face_by u ns apex s j ≡ cone_face t marks s j
+        faces_right : (j : ℕ) → j < faces → face_by u ns s j ≡ cone_face t marks s j
         faces_right j h =
-            ap (λ (p : ℕ). over_face p s apex (λ l. get_or ns (face u s l) 0) j) dim_kept
-            ∙ ap (λ (x : ℕ). over_face (dim t s) s x (λ l. get_or ns (face u s l) 0) j) ready.is_apex
-            ∙ used_side (dim t s) s (apex_of t) (λ l. get_or ns (face u s l) 0) (λ l. cone_of t marks (face t s l)) j low
-            (λ i. ap (λ (c : ℕ). get_or ns c 0) (face_kept j h) ∙ ready.numbers (face t s j) (a.closed s j marked i))
+            ap (λ (p : ℕ). over_face p s ns.apex (λ l. get_or ns.cones (face u s l) 0) j) dim_kept
+            ∙ ap (λ (x : ℕ). over_face (dim t s) s x (λ l. get_or ns.cones (face u s l) 0) j) ready.is_apex
+            ∙ used_side (dim t s) s (apex_of t) (λ l. get_or ns.cones (face u s l) 0) (λ l. cone_of t marks (face t s l)) j low
+            (λ i. ap (λ (c : ℕ). get_or ns.cones c 0) (face_kept j h) ∙ ready.numbers (face t s j) (a.closed s j marked i))
             ∙ over_is_cone_face j
 
-        pub raised_more : (u' : List ℕ) → ConeStored u ns apex s u' → Raised t marks u' (s + 1)
+        pub raised_more : (u' : List ℕ) → ConeStored u ns s u' → Raised t marks u' (s + 1)
         raised_more u' store =
             record {
               size = store.size ∙ so_far.size;
               state =
-                  cone_written t marks a s marked u u' (record_by u ns apex s) so_far.state
+                  cone_written t marks a s marked u u' (record_by u ns s) so_far.state
                   (rw (ready.numbers s marked) at store) (record { same_dim = ap suc dim_kept; same_face = faces_right });
             }
 
@@ -108,11 +115,11 @@ module _ (t marks ns : List ℕ) (apex : ℕ) (ready : Ready t marks apex ns) wh
             state = rw (same, how_many_no_more (member marks) s e) so_far.state;
           }
 
-    pub apex_fits : apex < cells_of u
+    pub apex_fits : ns.apex < cells_of u
     apex_fits = omega (arith, free_inside t (apex_of t) (apex_is_free t marks a), ready.is_apex, cells_kept)
 
-    pub raised_ends : (e : ℕ) → s ≡ e → MarksEnd t marks e → (u' : List ℕ) → Stored apex (record { dim = 0; face = λ j. get_or (replicate faces free_mark) j 0 }) u u' → u' ≡ coned t marks
+    pub raised_ends : (e : ℕ) → s ≡ e → MarkedBelow marks e → (u' : List ℕ) → Stored ns.apex (record { dim = 0; face = λ j. get_or (replicate faces free_mark) j 0 }) u u' → u' ≡ coned t marks
     raised_ends e i m u' store =
         apex_written t marks a u u' (record { dim = 0; face = λ j. get_or (replicate faces free_mark) j 0 })
-        (so_far.state ∙ ap (λ (k : ℕ). partly t marks (cones_to t marks (1 + k))) (marks_counted t marks s e i m))
+        (so_far.state ∙ ap (λ (k : ℕ). partly t marks (cones_to t marks (1 + k))) (marks_counted t marks s e i (ends e m)))
         (rw ready.is_apex at store) (record { same_dim = refl; same_face = λ j l. get_or-replicate faces j free_mark 0 l })

@@ -9,8 +9,8 @@ use Rattle.table.specs.Records.{Record, record_at, table_of}
 use Rattle.audit.specs.Audit.{grounds_with}
 use Rattle.calls.specs.Calls.{Ground, verdict, named, leaves}
 use Rattle.calls.specs.declared.Refusal.TheVariants.{NotLive, NotClosed, TopMarked, NoRoom}
-use Rattle.calls.specs.declared.Verdict.{Verdict}
-use Rattle.calls.specs.declared.Named.{Named}
+use Rattle.calls.specs.Calls.{Verdict}
+use Rattle.calls.specs.Calls.{Named}
 use Rattle.counting.specs.Counting.{how_many, nth, some_has, pick}
 
 -- a number inside the table whose record is free

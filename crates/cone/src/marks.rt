@@ -8,8 +8,7 @@ ghost use Rattle.calls.specs.Calls.{verdict};
 ghost use Rattle.cone.specs.Cone.{mark_grounds};
 ghost use Rattle.cone.specs.Parts.{MarkedBelow, open_face};
 
-use bitset::LargestCell;
-use calls::{Refusal, Verdict};
+use calls::Refusal;
 use table::Table;
 
 // The number after the last mark, 0 where nothing is marked.
@@ -17,10 +16,9 @@ pub fn marks_end(marks: &[u64]) -> usize
     requires { length marks.now ≤ capacity }
     ensures { MarkedBelow marks.now result }
 {
-    let last = bitset::largest(marks);
-    match last {
-        LargestCell::Nothing => 0,
-        LargestCell::Cell(m) => m + 1,
+    match bitset::largest(marks) {
+        Some(last) => last + 1,
+        None => 0,
     }
 }
 
@@ -32,43 +30,38 @@ fn face_open(t: &[u16], marks: &[u64], c: usize) -> bool
     let used = Table::used(Table::dim(t, c));
     let faces = Table::faces(t, c);
     let mut leaks = false;
-    let mut j = 0;
-    while j < used {
-        leaks = leaks | !bitset::has(marks, faces[j] as usize);
-        j += 1;
+    for f in &faces[..used] {
+        leaks |= !bitset::has(marks, *f as usize);
     }
     leaks
 }
 
 // Refused with 3, 7 or 8 for the marks, in that order: a mark on no live cell refuses at once, the other two faults are kept until
 // every mark is known to be on a live cell.
-pub fn asked(t: &[u16], marks: &[u64]) -> Verdict
+pub fn asked(t: &[u16], marks: &[u64]) -> Result<(), Refusal>
     requires { length marks.now ≤ capacity }
     ensures { result ≡ verdict (mark_grounds t.now marks.now) }
 {
-    let n = Table::room(t);
     let end = marks_end(marks);
-    if end > n {
-        return Verdict::Refused(Refusal::NotLive);
+    if end > Table::room(t) {
+        return Err(Refusal::NotLive);
     }
     let mut leaks = false;
     let mut top = false;
-    let mut c = 0;
-    while c < end {
+    for c in 0..end {
         if bitset::has(marks, c) {
             if !Table::live(t, c) {
-                return Verdict::Refused(Refusal::NotLive);
+                return Err(Refusal::NotLive);
             }
-            leaks = leaks | face_open(t, marks, c);
-            top = top | (Table::dim(t, c) == Table::TOP);
+            leaks |= face_open(t, marks, c);
+            top |= Table::dim(t, c) == Table::TOP;
         }
-        c += 1;
     }
     if leaks {
-        return Verdict::Refused(Refusal::NotClosed);
+        return Err(Refusal::NotClosed);
     }
     if top {
-        return Verdict::Refused(Refusal::TopMarked);
+        return Err(Refusal::TopMarked);
     }
-    Verdict::Accepted
+    Ok(())
 }

@@ -57,9 +57,6 @@ module _ (t u : List ℕ) (whole : u ≡ t) (c p k f d : ℕ) (v : Valid t) (l :
       subst (λ (x : List ℕ). (p - 1 < d) × (Valid x × (Live x f × ((p - 1 ≡ dim x f) × (i ≤ p - 1))))) (sym whole)
       (omega (arith, below), (v, (rw a (face_lives t v c (p - 1) l below j m), (rw a (sym (face_level t v c (p - 1) l below j m)), g))))
 
-  pub lower_asks : k < p → f ≡ face t c p → (p - 1 < d) × (Valid u × (Live u f × ((p - 1 ≡ dim u f) × (k ≤ p - 1))))
-  lower_asks h = face_asked p k (omega arith) (omega arith)
-
   pub lower_answers : k < p → f ≡ face t c p → (r : ℕ) → r ≡ corner_of u f k → r ≡ corner_of t c k
   lower_answers h i r q =
       let s : p ≡ suc (p - 1) = omega (arith, below) in

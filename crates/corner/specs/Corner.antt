@@ -6,7 +6,7 @@ use Rattle.table.specs.Table.{dim, face, live}
 use Rattle.audit.specs.Audit.{grounds}
 use Rattle.calls.specs.Calls.{Ground, verdict, named}
 use Rattle.calls.specs.declared.Refusal.TheVariants.{NotLive, NoSuchPlace}
-use Rattle.calls.specs.declared.Named.{Named}
+use Rattle.calls.specs.Calls.{Named}
 
 -- corner k of c, taken as a p-cell
 unfoldable pub corner_at : List ℕ → ℕ → ℕ → ℕ → ℕ

@@ -5,7 +5,7 @@ ghost use Rattle.std.specs.Prelude.{◌≡◌, ◌≤◌};
 ghost use Rattle.table.specs.Table.{dim as dim_of, Valid, Live};
 ghost use Rattle.corner.specs.Corner.{corner_of, corner_answer};
 
-use calls::{Named, Refusal, Verdict};
+use calls::Refusal;
 use table::Table;
 
 // Corner k of a live p-cell of a valid table.
@@ -29,27 +29,24 @@ fn corner_of(t: &[u16], c: u16, p: u16, k: u16) -> u16
 }
 
 // Corner k of cell c. Refused with 1, 2, 3, 12, in that order.
-pub fn corner(t: &[u16], c: u16, k: u16) -> Named
+pub fn corner(t: &[u16], c: u16, k: u16) -> Result<u16, Refusal>
     ensures { result ≡ corner_answer t.now c k }
 {
-    let found = audit::audit(t);
-    match found {
-        Verdict::Refused(r) => Named::NoCell(r),
-        Verdict::Accepted => of_valid(t, c, k),
-    }
+    audit::audit(t)?;
+    of_valid(t, c, k)
 }
 
 // The same once the table is known to be valid.
-fn of_valid(t: &[u16], c: u16, k: u16) -> Named
+fn of_valid(t: &[u16], c: u16, k: u16) -> Result<u16, Refusal>
     requires { Valid t.now }
     ensures { result ≡ corner_answer t.now c k }
 {
     if !Table::live(t, c as usize) {
-        return Named::NoCell(Refusal::NotLive);
+        return Err(Refusal::NotLive);
     }
     let p = Table::dim(t, c as usize);
     if k > p {
-        return Named::NoCell(Refusal::NoSuchPlace);
+        return Err(Refusal::NoSuchPlace);
     }
-    Named::Cell(corner_of(t, c, p, k))
+    Ok(corner_of(t, c, p, k))
 }

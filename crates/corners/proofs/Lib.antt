@@ -1,7 +1,5 @@
 pub mod Comparing
 pub mod Searching
-pub mod Inserting
 pub mod Holding
-pub mod Raising
-pub mod Removing
 pub mod LineCorners
+pub mod Removing

@@ -1,55 +1,17 @@
--- Seven words without one of them: the state of the pass, and that they are the record of the corners without that place.
+-- Seven words without one of them are the record of the corners without that place.
 -- What carries it: each word of the corners and of the padding, by its place. Assumes nothing.
-use mathlib.Core.Path.{◌≡◌, refl, sym, ap, ◌∙◌}
+use mathlib.Core.Path.{◌≡◌, sym, ap, ◌∙◌}
 use mathlib.Core.Logic.{⊎_elim}
 use mathlib.Core.List.{List, ◌++◌}
 use Prim.Native.Nat.{ℕ, suc, ◌+◌, ◌-◌, ◌≤◌, ◌<◌}
 use native.Mathlib.Omega.{arith}
-use lib.ListN.{length, get_or, set, replicate, length-append, length-replicate, get_or-replicate, length-set, get_or-append}
-use lib.Seq.{ext_get_or, get_or-set_same, get_or-set_other, get_or-append-add}
-use Rattle.counting.proofs.Cases.{below_or_not, same_or_other}
+use lib.ListN.{length, get_or, replicate, length-append, length-replicate, get_or-replicate, get_or-append}
+use lib.Seq.{ext_get_or, get_or-append-add}
+use Rattle.counting.proofs.Cases.{below_or_not}
 use Rattle.table.specs.Kind.{faces, free_mark}
 use Rattle.partlist.specs.ListTable.{without}
 use Rattle.partlist.proofs.Without.{without_length, without_low, without_up}
 use Rattle.corners.specs.Scratch.{padded, Packs, WithoutPlace}
-
--- ---- the pass
-
--- the words from j to k − 1 are those one place further; those below j are as they were
-pub record Removing (j : ℕ) (ws : List ℕ) (k : ℕ) (r : List ℕ) : Type 0 where
-  pub low : (i : ℕ) → i < j → get_or r i 0 ≡ get_or ws i 0
-  pub up : (i : ℕ) → j ≤ i → i < k → get_or r i 0 ≡ get_or ws (suc i) 0
-
-module _ (j : ℕ) (ws : List ℕ) where
-  pub removing_none : Removing j ws 0 ws
-  removing_none = record { low = λ i h. refl; up = λ i h l. absurd (omega arith) }
-
-  module _ (k : ℕ) (r : List ℕ) (s : Removing j ws k r) where
-    -- a place before j stays,
-    pub removing_kept : k < j → Removing j ws (k + 1) r
-    removing_kept h = record { low = s.low; up = λ i l m. absurd (omega arith) }
-
-    -- and one from j on moves
-    pub removing_more : j ≤ k → k < length r → Removing j ws (k + 1) (set r k (get_or ws (k + 1) 0))
-    removing_more from h =
-        record {
-          low = λ i l. get_or-set_other r k i (get_or ws (k + 1) 0) 0 (λ e. omega (arith, from, e)) ∙ s.low i l;
-          up = λ i l m.
-              same_or_other (λ x. get_or (set r k (get_or ws (k + 1) 0)) x 0 ≡ get_or ws (suc x) 0) i k
-              (get_or-set_same r k (get_or ws (k + 1) 0) 0 h ∙ ap (λ (x : ℕ). get_or ws x 0) (omega arith))
-              (λ ne. get_or-set_other r k i (get_or ws (k + 1) 0) 0 ne ∙ s.up i l (omega (arith, ne)));
-        }
-
-    pub removing_all : j < faces → length r ≡ faces → k ≡ faces - 1 → WithoutPlace j ws (set r (faces - 1) free_mark)
-    removing_all from long e =
-        record {
-          long = length-set r (faces - 1) free_mark ∙ long;
-          low = λ i l. get_or-set_other r (faces - 1) i free_mark 0 (λ q. omega (arith, from, q)) ∙ s.low i l;
-          up = λ i l m. get_or-set_other r (faces - 1) i free_mark 0 (λ q. omega (arith, q)) ∙ s.up i l (omega arith);
-          last = get_or-set_same r (faces - 1) free_mark 0 (omega arith);
-        }
-
--- ---- the corners
 
 -- a corner by its place, and the padding behind the corners
 padded_low : (σ : List ℕ) (k : ℕ) → k < length σ → get_or (padded σ) k 0 ≡ get_or σ k 0

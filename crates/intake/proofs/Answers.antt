@@ -1,19 +1,20 @@
 -- What the call answers and leaves, way by way out of the code, whatever the text is said to read as.
 -- What carries it: each test decides its own ground, in the order of the four; only the length's has the number 1. Assumes nothing.
 use mathlib.Core.Path.{◌≡◌, refl, sym, ap, subst, subst₂, ◌∙◌}
-use mathlib.Core.Bool.{Bool, true, false, ◌&&◌, not}
+use mathlib.Core.Bool.{true, false, ◌&&◌}
 use mathlib.Core.List.{List, [], ◌∷◌}
 use Prim.Native.Nat.{ℕ, ◌/◌, ◌%◌, ◌≤◌, ◌<◌}
 use native.Mathlib.Omega.{arith}
 use borrow.Author.Tests.{not-false, lt-ltb, le-ltb}
 use lib.ListN.{length, replicate}
 use lib.Dec.{eqb, leb, ltb}
-use Rattle.counting.specs.Counting.{pick}
 use Rattle.calls.specs.Calls.{Ends}
 use Rattle.calls.specs.declared.Refusal.{Refusal}
-use Rattle.calls.specs.declared.Refusal.TheVariants.{Length, BadText, BadIndex, NoRoom}
-use Rattle.calls.specs.declared.Verdict.{Verdict}
-use Rattle.calls.specs.declared.Verdict.TheVariants.{Accepted, Refused}
+use Rattle.calls.specs.declared.Refusal.TheVariants.{BadText, BadIndex, NoRoom}
+use Rattle.calls.specs.Calls.{Verdict}
+use Rattle.std.specs.declared.result.Result.TheVariants.{Ok, Err}
+use Prim.{tt}
+use Rattle.audit.proofs.Empties.{length_refused}
 use Rattle.calls.proofs.Grounds.{accepted_none_applies}
 use Rattle.table.specs.Kind.{capacity, width, free_mark}
 use Rattle.table.specs.Table.{cells_of, sized, on_length}
@@ -28,9 +29,7 @@ use Rattle.partlist.specs.Cells.{cell_list}
 use Rattle.partlist.specs.ListTable.{list_table}
 use Rattle.partlist.proofs.Reading.{reading_unique}
 use Rattle.lines.proofs.Decision.{reading}
-use Rattle.lines.specs.Scans.{Scanned, ScanIs, Opens}
-use Rattle.lines.specs.declared.Scan.{Scan}
-use Rattle.lines.specs.declared.Scan.TheVariants.{Unreadable, Unfit, Fit}
+use Rattle.lines.specs.Scans.{ScanIs}
 use Rattle.corners.specs.Scratch.{Kept}
 use Rattle.intake.specs.Steps.{Fills}
 use Rattle.intake.specs.Import.{verdict_by, leaves_by, import_verdict, import_leaves}
@@ -46,18 +45,14 @@ as_read t text r u i = i.ends (reading text)
 
 -- ---- the length
 
-length_refused : (b : Bool) (r : Refusal) → pick (not b) (Refused Length) Accepted ≡ Refused r → (b ≡ false) × (r ≡ Length)
-length_refused false r e = (refl, cc)
-length_refused true r e = absurd (let z : ◌≡◌ {A = ℕ} 0 1 = cc in omega arith)
-
 -- where emptying refuses, the length is no table's, so the call refuses alike and no word changes
-pub imports_length : (t text u : List ℕ) (r : Refusal) → empty_verdict t ≡ Refused r → u ≡ empty_leaves t → Imports t text (Refused r) u
+pub imports_length : (t text u : List ℕ) (r : Refusal) → empty_verdict t ≡ Err r → u ≡ empty_leaves t → Imports t text (Err r) u
 imports_length t text u r e a =
     let k = length_refused (sized t) r e in
-    record { ends = λ w. record { answer = ap Refused k.1 ∙ sym (simp k.0); left = a ∙ simp k.0 } }
+    record { ends = λ w. record { answer = ap Err k.1 ∙ sym (simp k.0); left = a ∙ simp k.0 } }
 
 -- else it is that of a table
-pub accepted_sized : (t : List ℕ) → empty_verdict t ≡ Accepted → sized t ≡ true
+pub accepted_sized : (t : List ℕ) → empty_verdict t ≡ Ok tt → sized t ≡ true
 accepted_sized t e = not-false (sized t) (accepted_none_applies (on_length t ∷ []) e).0
 
 sized_by_length : (t u : List ℕ) → length u ≡ length t → sized u ≡ sized t
@@ -92,10 +87,10 @@ module _ (t : List ℕ) (s : sized t ≡ true) where
 
   module _ (text u : List ℕ) where
     -- no list
-    pub imports_text : NoList text → u ≡ replicate (length t) free_mark → Imports t text (Refused BadText) u
+    imports_text : NoList text → u ≡ replicate (length t) free_mark → Imports t text (Err BadText) u
     imports_text bad d = record { ends = go }
       where
-        go : (w : Reading text) → Ends (verdict_by t w) (leaves_by t w) (Refused BadText) u
+        go : (w : Reading text) → Ends (verdict_by t w) (leaves_by t w) (Err BadText) u
         go (list n ls h) = absurd (bad n ls h)
         go (none h) = record { answer = rw s refl; left = d ∙ rw s refl }
 
@@ -111,38 +106,31 @@ module _ (t : List ℕ) (s : sized t ≡ true) where
               subst₂ (λ m ks. (g : IsList text m ks) → Ends (verdict_by t (list m ks g)) (leaves_by t (list m ks g)) r u) e.0 e.1 f h
 
       -- an index does not fit
-      pub imports_index : list_fits n ls ≡ false → u ≡ replicate (length t) free_mark → Imports t text (Refused BadIndex) u
-      imports_index bad d = by_list (Refused BadIndex) (λ h. record { answer = rw (s, bad) refl; left = d ∙ rw (s, bad) refl })
+      imports_index : list_fits n ls ≡ false → u ≡ replicate (length t) free_mark → Imports t text (Err BadIndex) u
+      imports_index bad d = by_list (Err BadIndex) (λ h. record { answer = rw (s, bad) refl; left = d ∙ rw (s, bad) refl })
 
       module _ (fit : list_fits n ls ≡ true) where
         -- more cells than the room
-        pub imports_full : cells_of t < length (cell_list n ls) → u ≡ replicate (length t) free_mark → Imports t text (Refused NoRoom) u
+        pub imports_full : cells_of t < length (cell_list n ls) → u ≡ replicate (length t) free_mark → Imports t text (Err NoRoom) u
         imports_full many d =
             let y : ltb (cells_of t) (length (cell_list n ls)) ≡ true = lt-ltb (cells_of t) (length (cell_list n ls)) many in
-            by_list (Refused NoRoom) (λ h. record { answer = rw (s, fit, y) refl; left = d ∙ rw (s, fit, y) refl })
+            by_list (Err NoRoom) (λ h. record { answer = rw (s, fit, y) refl; left = d ∙ rw (s, fit, y) refl })
 
-        pub imports_all : length (cell_list n ls) ≤ cells_of t → u ≡ list_table (cells_of t) (cell_list n ls) → Imports t text Accepted u
+        pub imports_all : length (cell_list n ls) ≤ cells_of t → u ≡ list_table (cells_of t) (cell_list n ls) → Imports t text (Ok tt) u
         imports_all few d =
             let y : ltb (cells_of t) (length (cell_list n ls)) ≡ false = le-ltb (cells_of t) (length (cell_list n ls)) few in
-            by_list Accepted (λ h. record { answer = rw (s, fit, y) refl; left = d ∙ rw (s, fit, y) refl })
+            by_list (Ok tt) (λ h. record { answer = rw (s, fit, y) refl; left = d ∙ rw (s, fit, y) refl })
 
--- ---- what the scan says, case by case
-
-pub scan_none : (text : List ℕ) (r : Scan) → ScanIs text r → r ≡ Unreadable → NoList text
-scan_none text r h e = subst (ScanIs text) e h
-
-pub scan_unfit : (text : List ℕ) (r : Scan) → ScanIs text r → r ≡ Unfit → (n : ℕ) × Scanned text n false
-scan_unfit text r h e = subst (ScanIs text) e h
-
-pub scan_fit : (text : List ℕ) (r : Scan) (n at : ℕ) → ScanIs text r → r ≡ Fit n at → Opens text n at × Scanned text n true
-scan_fit text r n at h e = subst (ScanIs text) e h
+-- what the scan refuses
+pub imports_refused :
+    (t : List ℕ) → sized t ≡ true → (text u : List ℕ) → u ≡ replicate (length t) free_mark → (e : Refusal) → ScanIs text (Err e) →
+    Imports t text (Err e) u
+imports_refused t s text u d BadText bad = imports_text t s text u bad d
+imports_refused t s text u d BadIndex w = imports_index t s text u w.0 w.1.lines w.1.is_list w.1.fits d
+imports_refused t s text u d _ w = absurd w
 
 -- a table of the same length has the same room
 pub fills_there :
-    (t₀ t : List ℕ) → length t ≡ length t₀ → {text : List ℕ} {n : ℕ} {u : List ℕ} {b : Bool} → Fills text n (cells_of t) u b →
-    Fills text n (cells_of t₀) u b
-fills_there t₀ t e {text} {n} {u} {b} f = subst (λ (x : ℕ). Fills text n (x / width) u b) e f
-
--- the answer under another name
-pub imports_refused : (t text u : List ℕ) (r v : Verdict) → v ≡ r → Imports t text r u → Imports t text v u
-imports_refused t text u r v e i = subst (λ (x : Verdict). Imports t text x u) (sym e) i
+    (t₀ t : List ℕ) → length t ≡ length t₀ → (text : List ℕ) (n : ℕ) (u : List ℕ) (r : Verdict) → Fills text n (cells_of t) u r →
+    Fills text n (cells_of t₀) u r
+fills_there t₀ t e text n u r f = subst (λ (x : ℕ). Fills text n (x / width) u r) e f

@@ -5,7 +5,7 @@ use mathlib.Core.Logic.{⊎_elim}
 use mathlib.Core.List.{List, [], ◌∷◌, Memᴰ as In}
 use Prim.Native.Nat.{ℕ, zero, suc, ◌+◌, ◌-◌, ◌≤◌, ◌<◌}
 use native.Mathlib.Omega.{arith}
-use lib.ListN.{length, get_or, set, take, replicate, length-set, get_or-replicate}
+use lib.ListN.{length, get_or, set, take, length-set}
 use lib.Seq.{take_all, get_or-take, length-take-le, get_or-set_same, get_or-set_other}
 use Rattle.counting.proofs.Cases.{below_or_not, same_or_not, same_or_other}
 use Rattle.table.specs.Kind.{faces, free_mark, used}
@@ -88,14 +88,6 @@ pub record FacesTo (t : List ℕ) (c p : ℕ) (ws fs : List ℕ) (j : ℕ) : Typ
   pub rest : (i : ℕ) → j ≤ i → i < faces → get_or fs i 0 ≡ free_mark
 
 module _ (t : List ℕ) (c p : ℕ) (ws : List ℕ) where
-  pub faces_none : FacesTo t c p ws (replicate faces free_mark) 0
-  faces_none =
-      record {
-        long = refl;
-        done = λ cs k s h w q i l. absurd (omega arith);
-        rest = λ i h l. get_or-replicate faces i free_mark 0 l;
-      }
-
   -- the dimension of the cell whose corners stand there
   cell_dim : (cs : List (List ℕ)) → c < length cs → Packs p ws (corners_at cs c) → p ≡ dim_at cs c
   cell_dim cs h q = omega (arith, q.count, dim_live cs c h)
@@ -129,10 +121,11 @@ module _ (t : List ℕ) (c p : ℕ) (ws : List ℕ) where
             number_is cs o k c j h two inside r n.0 n.1
             ∙ sym (face_used cs c j (subst (λ (x : ℕ). j < used x) (cell_dim cs h q) place))
 
-    pub faces_all : used p ≤ j → FaceNumbers t c p ws fs
-    faces_all h =
+    pub faces_all : p ≡ dim t c → ws ≡ faces_of t c → used p ≤ j → FaceNumbers t c fs
+    faces_all same_dim same_words_lem h =
         record {
-          faced = λ cs k o l v q i b.
+          faced = λ cs k o l v q₀ i b.
+              let q = packs_alike same_dim same_words_lem refl q₀ in
               ⊎_elim
               (s.done cs k o l v q i)
               (λ a. s.rest i a b ∙ sym (face_unused cs c i (subst (λ (x : ℕ). used x ≤ i) (cell_dim cs l q) (omega (arith, h, a)))))
@@ -188,9 +181,9 @@ facing_none room t m =
 
 module _ (room : ℕ) (t₀ : List ℕ) (m : ℕ) (t : List ℕ) (c : ℕ) (s : Facing room t₀ m t c) where
   pub facing_more :
-      (p : ℕ) (ws fs t' : List ℕ) → 0 < c → p ≡ dim t (c - 1) → ws ≡ faces_of t (c - 1) → FaceNumbers t (c - 1) p ws fs →
+      (fs t' : List ℕ) → 0 < c → FaceNumbers t (c - 1) fs →
       Stored (c - 1) (record { dim = dim t (c - 1); face = λ j. get_or fs j 0 }) t t' → Facing room t₀ m t' (c - 1)
-  facing_more p ws fs t' some same_dim same_words_lem numbers st =
+  facing_more fs t' some numbers st =
       record {
         size = st.size ∙ s.size;
         inside = omega (arith, s.inside);
@@ -226,13 +219,10 @@ module _ (room : ℕ) (t₀ : List ℕ) (m : ℕ) (t : List ℕ) (c : ℕ) (s : 
               subst (Packs (dim t (c - 1)) (faces_of t (c - 1))) (get_or-take c cs (c - 1) [] (omega arith))
               (f.lower.records (c - 1) (omega (arith, length-take-le c cs (omega (arith, s.inside, e)))))
 
-          packed' : Packs p ws (corners_at cs (c - 1))
-          packed' = packs_alike same_dim same_words_lem refl packed
-
           here : Alike (record_at t' (c - 1)) (cell_at cs (c - 1))
           here =
               alike_then st.here
-              (record { same_dim = omega (arith, packed.count, dim_live cs (c - 1) inside); same_face = numbers.faced cs k o inside held packed' })
+              (record { same_dim = omega (arith, packed.count, dim_live cs (c - 1) inside); same_face = numbers.faced cs k o inside held packed })
 
   pub facing_all : c ≤ 0 → PutsFaces room t₀ m t
   unfolding list_table

@@ -1,25 +1,27 @@
 -- The facets of one cell, and the sweep over all cells, with the table that holds them.
 -- What carries it: the laws of the sweep over lists of cells; a facet that comes in moves its cell up by one. Assumes nothing.
-use mathlib.Core.Path.{◌≡◌, refl, sym, ap, subst, ◌∙◌}
+use mathlib.Core.Path.{◌≡◌, sym, ap, subst, ◌∙◌}
 use mathlib.Core.List.{List, Memᴰ as In}
 use Prim.Native.Nat.{ℕ, suc, ◌+◌, ◌-◌, ◌/◌, ◌≤◌, ◌<◌}
 use native.Mathlib.Omega.{arith}
 use native.Mathlib.Numerals.{add-one}
 use borrow.Author.Tests.{ne_eqb, le-leb}
 use lib.ListN.{length}
+use Rattle.std.specs.Prelude.{Result}
+use Rattle.calls.specs.declared.Refusal.{Refusal}
 use Rattle.table.specs.Kind.{top, faces, width, used}
 use Rattle.table.specs.Table.{cells_of, dim, faces_of}
 use Rattle.partlist.specs.Cells.{cell_list}
 use Rattle.partlist.specs.ListTable.{without, corners_at}
 use Rattle.partlist.specs.Sweep.{put_at, Fitting, Swept, Sweeping, InRange}
-use Rattle.partlist.proofs.Sweep.{gathered_most, sweep_start, sweep_entry, sweep_found, sweep_next, sweep_low, sweep_put, facet_moves}
+use Rattle.partlist.proofs.Sweep.{gathered_most, sweep_found, sweep_next, sweep_low, sweep_put, facet_moves}
 use Rattle.partlist.proofs.Swept.{sweep_done}
 use Rattle.partlist.proofs.Placing.{put_length}
 use Rattle.partlist.proofs.ListTable.{used_says}
-use Rattle.corners.specs.Scratch.{Packs, Kept, Taken, Joined, TakesIn, WithoutPlace}
+use Rattle.corners.specs.Scratch.{Packs, Kept, Taken, Overfull, Joined, TakenIn, LeftOut, WithoutPlace}
 use Rattle.corners.specs.Scratch.Joined.{there, put}
 use Rattle.corners.proofs.Removing.{facet_packs}
-use Rattle.intake.specs.Steps.{Gathering, SweptTo, SweepsCell, Sweeps}
+use Rattle.intake.specs.Steps.{Gathering, SweptTo, FacetsIn, FacetsOut, SweepsCell, SweptIn, SweptOut}
 
 -- ---- one cell
 
@@ -61,36 +63,40 @@ module _ (n : ℕ) (ls cs : List (List ℕ)) (c j : ℕ) (s : Sweeping n ls cs c
 -- the turn at place j of a p-cell with the words ws, whose facet has the words fs
 module _
     (n : ℕ) (ls : List (List ℕ)) (room : ℕ) (t σ : List ℕ) (c m j : ℕ) (w : Halfway n ls room t σ c m j) (p : ℕ) (ws fs : List ℕ) (q : Packs p ws σ)
-    (two : 2 ≤ p) (place : j ≤ p) (facet : WithoutPlace j ws fs) (t' : List ℕ) (r : ℕ) (takes : TakesIn t t' m (p - 1) fs r) where
+    (two : 2 ≤ p) (place : j ≤ p) (facet : WithoutPlace j ws fs) where
   long : length (corners_at w.cells c) ≡ suc p
   long = ap length w.corners ∙ sym q.count
 
-  took : Taken room w.cells (without j (corners_at w.cells c)) t' r
-  took =
-      takes.taken room w.cells (without j (corners_at w.cells c)) w.count w.kept
-      (subst (λ (τ : List ℕ). Packs (p - 1) fs (without j τ)) (sym w.corners) (facet_packs p j ws fs σ q (omega arith) place facet))
+  facet_is : Packs (p - 1) fs (without j (corners_at w.cells c))
+  facet_is = subst (λ (τ : List ℕ). Packs (p - 1) fs (without j τ)) (sym w.corners) (facet_packs p j ws fs σ q (omega arith) place facet)
 
-  onward : Onward n ls w.cells c j w.sweeping (omega (arith, long)) (omega (arith, long)) took.cells
-  onward = facet_joined n ls w.cells c j w.sweeping (omega (arith, long)) (omega (arith, long)) took.cells took.joined
+  onward : (cs : List (List ℕ)) → Joined w.cells (without j (corners_at w.cells c)) cs → Onward n ls w.cells c j w.sweeping (omega (arith, long)) (omega (arith, long)) cs
+  onward cs joined = facet_joined n ls w.cells c j w.sweeping (omega (arith, long)) (omega (arith, long)) cs joined
 
-  moved : c + (length took.cells - length w.cells) ≡ c + (r - m)
-  moved = ap (λ (x : ℕ). c + x) (omega (arith, took.count, w.count))
+  -- it comes in, if it is not there
+  module _ (t' : List ℕ) (r : ℕ) (takes : TakenIn t t' m (p - 1) fs r) where
+    took : Taken room w.cells (without j (corners_at w.cells c)) t' r
+    took = takes.taken room w.cells (without j (corners_at w.cells c)) w.count w.kept facet_is
 
-  sweeps_on : Sweeping n ls took.cells (c + (r - m)) (suc j)
-  sweeps_on = subst (λ (x : ℕ). Sweeping n ls took.cells x (suc j)) moved onward.sweeping
+    moved : c + (length took.cells - length w.cells) ≡ c + (r - m)
+    moved = ap (λ (x : ℕ). c + x) (omega (arith, took.count, w.count))
 
-  halfway_more : r ≤ room → Halfway n ls room t' σ (c + (r - m)) r (suc j)
-  halfway_more h =
-      record {
-        cells = took.cells;
-        count = took.count;
-        kept = took.kept h;
-        sweeping = sweeps_on;
-        corners = ap (corners_at took.cells) (sym moved) ∙ onward.corners ∙ w.corners;
-      }
+    halfway_more : Halfway n ls room t' σ (c + (r - m)) r (suc j)
+    halfway_more =
+        record {
+          cells = took.cells;
+          count = took.count;
+          kept = took.kept;
+          sweeping = subst (λ (x : ℕ). Sweeping n ls took.cells x (suc j)) moved (onward took.cells took.joined).sweeping;
+          corners = ap (corners_at took.cells) (sym moved) ∙ (onward took.cells took.joined).corners ∙ w.corners;
+        }
 
-  halfway_full : room < r → room < length (cell_list n ls)
-  halfway_full h = omega (arith, h, took.count, gathered_most n ls took.cells sweeps_on.swept.gathered)
+  -- or has no room
+  halfway_full : (t' : List ℕ) (e : Refusal) → LeftOut t t' m (p - 1) fs e → room < length (cell_list n ls)
+  halfway_full t' e out =
+      let o : Overfull room w.cells (without j (corners_at w.cells c)) =
+      out.full room w.cells (without j (corners_at w.cells c)) w.count w.kept facet_is in
+      omega (arith, o.full, gathered_most n ls o.cells (onward o.cells o.joined).sweeping.swept.gathered)
 
 -- what the loop over the facets of cell c₀ carries, for whatever list of cells the table held at first
 pub record FacetsTo (room : ℕ) (t₀ : List ℕ) (c₀ m₀ : ℕ) (t : List ℕ) (m j : ℕ) : Type 0 where
@@ -100,26 +106,15 @@ pub record FacetsTo (room : ℕ) (t₀ : List ℕ) (c₀ m₀ : ℕ) (t : List �
       (n : ℕ) (ls : List (List ℕ)) → (w : SweptTo n ls room t₀ (suc c₀) m₀) →
       Halfway n ls room t (corners_at w.cells c₀) (c₀ + (m - m₀)) m j
 
-pub facets_none : (room : ℕ) (t : List ℕ) (c m : ℕ) → m ≤ room → FacetsTo room t c m t m 0
-facets_none room t c m h =
-    record {
-      least = omega arith;
-      most = h;
-      halfway = λ n ls w.
-          let z : c ≡ c + (m - m) = omega arith in
-          subst (λ (x : ℕ). Halfway n ls room t (corners_at w.cells c) x m 0) z
-          (record { cells = w.cells; count = w.count; kept = w.kept; sweeping = sweep_entry n ls w.cells c w.swept; corners = refl });
-    }
-
 module _ (room : ℕ) (t₀ : List ℕ) (c₀ m₀ p : ℕ) (ws : List ℕ) (same_dim : p ≡ dim t₀ c₀) (same_words_lem : ws ≡ faces_of t₀ c₀) (two : 2 ≤ p) where
   packed : (n : ℕ) (ls : List (List ℕ)) → (w : SweptTo n ls room t₀ (suc c₀) m₀) → Packs p ws (corners_at w.cells c₀)
   packed n ls w =
       rw (same_dim, same_words_lem) (w.kept.holds.records c₀ w.swept.inside)
 
   module _ (t : List ℕ) (m j : ℕ) (s : FacetsTo room t₀ c₀ m₀ t m j) where
-    module _ (fs t' : List ℕ) (r : ℕ) (place : j < used p) (facet : WithoutPlace j ws fs) (takes : TakesIn t t' m (p - 1) fs r) where
-      pub facets_more : r ≤ room → FacetsTo room t₀ c₀ m₀ t' r (j + 1)
-      facets_more h =
+    module _ (fs : List ℕ) (place : j < used p) (facet : WithoutPlace j ws fs) where
+      pub facets_more : (t' : List ℕ) (r : ℕ) → TakenIn t t' m (p - 1) fs r → r ≤ room → FacetsTo room t₀ c₀ m₀ t' r (j + 1)
+      facets_more t' r takes h =
           record {
             least = omega (arith, s.least, takes.least);
             most = h;
@@ -127,23 +122,23 @@ module _ (room : ℕ) (t₀ : List ℕ) (c₀ m₀ p : ℕ) (ws : List ℕ) (sam
                 let z : c₀ + (m - m₀) + (r - m) ≡ c₀ + (r - m₀) = omega (arith, s.least, takes.least) in
                 rw (add-one j)
                 (subst (λ (x : ℕ). Halfway n ls room t' (corners_at w.cells c₀) x r (suc j)) z
-                (halfway_more n ls room t _ _ m j (s.halfway n ls w) p ws fs (packed n ls w) two (used_says p j place).place facet t' r takes h));
+                (halfway_more n ls room t _ _ m j (s.halfway n ls w) p ws fs (packed n ls w) two (used_says p j place).place facet t' r takes));
           }
 
-      pub facets_full : room < r → SweepsCell room t₀ t' c₀ m₀ r
-      facets_full h =
+      pub facets_full : (t' : List ℕ) (e : Refusal) → LeftOut t t' m (p - 1) fs e → FacetsOut room t₀ c₀ m₀ e
+      facets_full t' e out =
           record {
-            grown = omega (arith, s.least, takes.least);
-            sweeps = λ n ls range w k. absurd (omega (arith, h, k));
-            full = λ n ls range w k.
-                halfway_full n ls room t _ _ m j (s.halfway n ls w) p ws fs (packed n ls w) two (used_says p j place).place facet t' r takes h;
+            refusal = out.refusal;
+            full = λ n ls range w.
+                halfway_full n ls room t _ _ m j (s.halfway n ls w) p ws fs (packed n ls w) two (used_says p j place).place facet t' e out;
           }
 
-    pub facets_all : used p ≤ j → SweepsCell room t₀ t c₀ m₀ m
+    pub facets_all : used p ≤ j → FacetsIn room t₀ t c₀ m₀ m
     facets_all h =
         record {
           grown = s.least;
-          sweeps = λ n ls range w k.
+          most = s.most;
+          sweeps = λ n ls range w.
               let v = s.halfway n ls w in
               let q = packed n ls w in
               record {
@@ -154,18 +149,18 @@ module _ (room : ℕ) (t₀ : List ℕ) (c₀ m₀ p : ℕ) (ws : List ℕ) (sam
                     sweep_next n ls v.cells (c₀ + (m - m₀)) j v.sweeping
                     (omega (arith, h, used_all p two q.count q.few, q.count, ap length v.corners));
               };
-          full = λ n ls range w k. absurd (omega (arith, k, s.most));
         }
       where
         used_all : (p : ℕ) → 2 ≤ p → {k : ℕ} → suc p ≡ k → k ≤ faces → used p ≡ suc p
         used_all p two e few = rw (ne_eqb p 0 (λ z. omega arith), le-leb p top (omega arith)) (omega arith)
 
 -- a point or an edge
-pub facets_low : (room : ℕ) (t : List ℕ) (c m p : ℕ) → p ≡ dim t c → p < 2 → m ≤ room → SweepsCell room t t c m m
+pub facets_low : (room : ℕ) (t : List ℕ) (c m p : ℕ) → p ≡ dim t c → p < 2 → m ≤ room → FacetsIn room t t c m m
 facets_low room t c m p e low h =
     record {
       grown = omega arith;
-      sweeps = λ n ls range w k.
+      most = h;
+      sweeps = λ n ls range w.
           let z : c ≡ c + (m - m) = omega arith in
           record {
             cells = w.cells;
@@ -175,14 +170,13 @@ facets_low room t c m p e low h =
                 subst (Swept n ls w.cells) z (sweep_low n ls w.cells c range w.swept
                 (omega (arith, (w.kept.holds.records c w.swept.inside).count, e)));
           };
-      full = λ n ls range w k. absurd (omega (arith, k, h));
     }
 
 -- tables of one length have the same room
 pub same_room :
-    (t₀ : List ℕ) {t t' : List ℕ} {c m r : ℕ} → length t ≡ length t₀ → SweepsCell (cells_of t) t t' c m r →
+    (t₀ t t' : List ℕ) (c m : ℕ) (r : Result ℕ Refusal) → length t ≡ length t₀ → SweepsCell (cells_of t) t t' c m r →
     SweepsCell (cells_of t₀) t t' c m r
-same_room t₀ {t} {t'} {c} {m} {r} e s = subst (λ (x : ℕ). SweepsCell (x / width) t t' c m r) e s
+same_room t₀ t t' c m r e s = subst (λ (x : ℕ). SweepsCell (x / width) t t' c m r) e s
 
 -- ---- all cells
 
@@ -192,49 +186,31 @@ pub record CellsTo (room : ℕ) (t₀ : List ℕ) (m₀ : ℕ) (t : List ℕ) (m
   pub most : m ≤ room
   pub reached : (n : ℕ) (ls : List (List ℕ)) → InRange n ls → Gathering n ls room t₀ m₀ → SweptTo n ls room t c m
 
-pub cells_none : (room : ℕ) (t : List ℕ) (m : ℕ) → m ≤ room → CellsTo room t m t m m
-cells_none room t m h =
-    record {
-      inside = omega arith;
-      most = h;
-      reached = λ n ls range g.
-          record {
-            cells = g.cells;
-            count = g.count;
-            kept = g.kept;
-            swept = subst (Swept n ls g.cells) g.count (sweep_start n ls g.cells g.gathered);
-          };
-    }
-
 module _ (room : ℕ) (t₀ : List ℕ) (m₀ : ℕ) (t : List ℕ) (m c : ℕ) (s : CellsTo room t₀ m₀ t m c) where
-  module _ (t' : List ℕ) (r : ℕ) (some : 0 < c) (sweeps : SweepsCell room t t' (c - 1) m r) where
+  module _ (some : 0 < c) where
     before : (n : ℕ) (ls : List (List ℕ)) → InRange n ls → Gathering n ls room t₀ m₀ → SweptTo n ls room t (suc (c - 1)) m
     before n ls range g =
         let z : c ≡ suc (c - 1) = omega arith in
         subst (λ (x : ℕ). SweptTo n ls room t x m) z (s.reached n ls range g)
 
-    pub cells_more : r ≤ room → CellsTo room t₀ m₀ t' r (c - 1 + (r - m))
-    cells_more h =
+    pub cells_more : (t' : List ℕ) (r : ℕ) → FacetsIn room t t' (c - 1) m r → CellsTo room t₀ m₀ t' r (c - 1 + (r - m))
+    cells_more t' r sweeps =
         record {
           inside = omega (arith, s.inside, sweeps.grown);
-          most = h;
-          reached = λ n ls range g. sweeps.sweeps n ls range (before n ls range g) h;
+          most = sweeps.most;
+          reached = λ n ls range g. sweeps.sweeps n ls range (before n ls range g);
         }
 
-    pub cells_full : room < r → Sweeps room t₀ t' m₀ r
-    cells_full h =
-        record {
-          sweeps = λ n ls range g k. absurd (omega (arith, h, k));
-          full = λ n ls range g k. sweeps.full n ls range (before n ls range g) h;
-        }
+    pub cells_full : (e : Refusal) → FacetsOut room t (c - 1) m e → SweptOut room t₀ m₀ e
+    cells_full e out = record { refusal = out.refusal; full = λ n ls range g. out.full n ls range (before n ls range g) }
 
-  pub cells_all : c ≤ 0 → Sweeps room t₀ t m₀ m
+  pub cells_all : c ≤ 0 → SweptIn room t₀ t m₀ m
   cells_all h =
       record {
-        sweeps = λ n ls range g k.
+        most = s.most;
+        sweeps = λ n ls range g.
             let w = s.reached n ls range g in
             let z : c ≡ 0 = omega arith in
             let e = sweep_done n ls w.cells (subst (Swept n ls w.cells) z w.swept) in
             record { count = ap length (sym e) ∙ w.count; kept = subst (Kept room t) e w.kept };
-        full = λ n ls range g k. absurd (omega (arith, k, s.most));
       }

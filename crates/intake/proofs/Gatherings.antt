@@ -6,6 +6,8 @@ use mathlib.Core.List.{List, [], ◌∷◌, ◌++◌}
 use Prim.Native.Nat.{ℕ, ◌≤◌, ◌<◌}
 use native.Mathlib.Omega.{arith}
 use lib.ListN.{length}
+use Rattle.std.specs.Prelude.{Option, Some, None, IsSome}
+use Rattle.calls.specs.declared.Refusal.{Refusal}
 use Rattle.table.specs.Kind.{capacity, free_mark}
 use Rattle.partlist.specs.Text.{IsLine}
 use Rattle.partlist.specs.Indices.{line_fits, Fit}
@@ -17,11 +19,10 @@ use Rattle.partlist.proofs.Reading.{reading_unique}
 use Rattle.partlist.proofs.Sweep.{gathered_most}
 use Rattle.partlist.proofs.Gathering.{gather_points, gather_found, gather_put, cells_grow, points_from_length}
 use Rattle.lines.specs.Scans.{Opens, Scanned, ReadsLine, LineAt}
-use Rattle.lines.specs.declared.Line.{Line}
-use Rattle.lines.proofs.Wholes.{Onto, onto_first, onto_more, onto_fits, onto_part, line_there, all_read}
-use Rattle.corners.specs.Scratch.{Kept, Taken, Joined}
+use Rattle.lines.proofs.Wholes.{Onto, onto_first, onto_more, onto_fits, onto_part, line_missing, all_read}
+use Rattle.corners.specs.Scratch.{Kept, Packs, Taken, Overfull, Joined, TakenIn, LeftOut}
 use Rattle.corners.specs.Scratch.Joined.{there, put}
-use Rattle.intake.specs.Steps.{TakesLine, Gathers}
+use Rattle.intake.specs.Steps.{GathersAll, TooMany}
 
 -- the lines up to the place `at` are passed, and the table holds m cells that have them
 pub record Reached (text : List ℕ) (n room : ℕ) (t : List ℕ) (at m : ℕ) : Type 0 where
@@ -52,13 +53,14 @@ joined_gathered n ls l cs cs' g h (there i) = gather_found n ls l cs g i
 joined_gathered n ls l cs cs' g h (put k fit) = gather_put n ls l cs k g h fit
 
 module _ (text : List ℕ) (n room : ℕ) (t : List ℕ) (at m : ℕ) (s : Reached text n room t at m) where
-  pub reached_room : m ≤ room
+  reached_room : m ≤ room
   reached_room = omega (arith, s.count, s.kept.room)
 
   module _ (whole : Scanned text n true) where
     -- a line stands where the text has not ended
-    pub line_some : at < length text → (r : Line) → LineAt text at r → 1 ≤ r.count
-    line_some h r l = line_there text n at true s.onto h r l whole.lines whole.is_list
+    pub line_some : at < length text → (r : Option (List ℕ × ℕ)) → LineAt text at r → IsSome {T = List ℕ × ℕ} r
+    line_some h (Some l) w = refl
+    line_some h None bad = absurd (line_missing text n at true s.onto h bad n whole.lines whole.is_list)
 
     module _ (l : List ℕ) (i : ℕ) (reads : ReadsLine text at l i) where
       further : Onto text n i (true && line_fits n l)
@@ -73,40 +75,39 @@ module _ (text : List ℕ) (n room : ℕ) (t : List ℕ) (at m : ℕ) (s : Reach
       onto_next : Onto text n i true
       onto_next = onto_more text n at true s.onto l i true reads (sym line_fits_lem)
 
-      module _ (t' : List ℕ) (r : ℕ) (takes : TakesLine t t' m l r) where
-        took : Taken room s.cells (sorted_up compared_numbers l) t' r
-        took = takes.taken room s.cells s.count s.kept
-
-        gathered_next : Gathered n onto_next.passed took.cells
+      module _ (p : ℕ) (ws : List ℕ) (packs : Packs p ws (sorted_up compared_numbers l)) where
+        gathered_next : (cs : List (List ℕ)) → Joined s.cells (sorted_up compared_numbers l) cs → Gathered n onto_next.passed cs
         unfolding onto_next onto_more
-        gathered_next = joined_gathered n s.onto.passed l s.cells took.cells s.gathered reads.line took.joined
+        gathered_next cs joined = joined_gathered n s.onto.passed l s.cells cs s.gathered reads.line joined
 
-        pub reached_more : r ≤ room → Reached text n room t' i r
-        reached_more h =
-            record { onto = onto_next; cells = took.cells; count = took.count; kept = took.kept h; gathered = gathered_next }
+        pub reached_more : (t' : List ℕ) (r : ℕ) → TakenIn t t' m p ws r → Reached text n room t' i r
+        reached_more t' r takes =
+            let took : Taken room s.cells (sorted_up compared_numbers l) t' r = takes.taken room s.cells (sorted_up compared_numbers l) s.count s.kept packs in
+            record { onto = onto_next; cells = took.cells; count = took.count; kept = took.kept; gathered = gathered_next took.cells took.joined }
 
         -- one cell too many
-        pub too_many : room < r → Gathers text n room t' r
-        too_many h =
+        pub too_many : (t' : List ℕ) (e : Refusal) → LeftOut t t' m p ws e → TooMany text n room e
+        too_many t' e out =
+            let o : Overfull room s.cells (sorted_up compared_numbers l) = out.full room s.cells (sorted_up compared_numbers l) s.count s.kept packs in
             record {
-              gathers = λ ls e k. absurd (omega (arith, h, k));
-              full = λ ls e k.
+              refusal = out.refusal;
+              full = λ ls e.
                   let p = onto_part text n i true onto_next ls e in
                   omega (
                     arith,
-                    h,
-                    took.count,
-                    gathered_most n onto_next.passed took.cells gathered_next,
+                    o.full,
+                    gathered_most n onto_next.passed o.cells (gathered_next o.cells o.joined),
                     cells_grow n onto_next.passed p.others,
                     ap (λ (x : List (List ℕ)). length (cell_list n x)) p.joined,
                   );
             }
 
-  pub all_reached : length text ≤ at → Gathers text n room t m
+  pub all_reached : length text ≤ at → GathersAll text n room t m
   unfolding all_read
   all_reached h =
       record {
-        gathers = λ ls e k.
+        most = reached_room;
+        gathers = λ ls e.
             let w = all_read text n at true s.onto h in
             record {
               cells = s.cells;
@@ -114,5 +115,4 @@ module _ (text : List ℕ) (n room : ℕ) (t : List ℕ) (at m : ℕ) (s : Reach
               kept = s.kept;
               gathered = subst (λ (x : List (List ℕ)). Gathered n x s.cells) (reading_unique text n n w.lines ls w.is_list e).1 s.gathered;
             };
-        full = λ ls e k. absurd (omega (arith, k, reached_room));
       }

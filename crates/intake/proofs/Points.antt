@@ -2,7 +2,7 @@
 use mathlib.Core.Path.{◌≡◌, refl, sym, ap, subst, ◌∙◌}
 use mathlib.Core.Logic.{◌⊎◌, inl, inr}
 use mathlib.Core.List.{List, [], ◌∷◌}
-use Prim.Native.Nat.{ℕ, ◌+◌, ◌≤◌, ◌<◌}
+use Prim.Native.Nat.{ℕ, ◌+◌, ◌<◌}
 use native.Mathlib.Omega.{arith}
 use lib.ListN.{set, replicate}
 use Rattle.counting.proofs.Cases.{same_or_not}
@@ -47,6 +47,3 @@ module _ (n : ℕ) (t u : List ℕ) (c : ℕ) where
           let a = s.else d ne in
           packs_alike a.same_dim (same_record u d t d a) (points_from_at 0 (c + 1) d l ∙ sym (points_from_at 0 c d below))
           (k.holds.records d (omega (arith, below, points_from_length 0 c)))
-
-  pub points_all : (m : ℕ) → m ≤ c → c ≤ m → Kept n t (points_from 0 c) → Kept n t (points_from 0 m)
-  points_all m h l k = let e : c ≡ m = omega arith in subst (λ (x : ℕ). Kept n t (points_from 0 x)) e k

@@ -11,8 +11,9 @@ use lib.ListN.{length}
 use lib.Dec.{ltb}
 use Rattle.counting.specs.Counting.{pick}
 use Rattle.calls.specs.declared.Refusal.TheVariants.{Length, BadText, BadIndex, NoRoom}
-use Rattle.calls.specs.declared.Verdict.{Verdict}
-use Rattle.calls.specs.declared.Verdict.TheVariants.{Accepted, Refused}
+use Rattle.calls.specs.Calls.{Verdict}
+use Rattle.std.specs.declared.result.Result.TheVariants.{Ok, Err}
+use Prim.{tt}
 use Rattle.calls.proofs.Grounds.{accepted_none_applies}
 use Rattle.table.specs.Table.{cells_of, Sized, sized}
 use Rattle.table.proofs.Sizes.{sized_is_sized}
@@ -32,7 +33,7 @@ use Rattle.intake.specs.Import.{grounds_by, verdict_by, leaves_by, import_verdic
 
 -- the four tests: length, text, indices, room
 abbrev said : Bool → Bool → Bool → Bool → Verdict
-said a b c d = pick (not a) (Refused Length) (pick (not b) (Refused BadText) (pick (not c) (Refused BadIndex) (pick d (Refused NoRoom) Accepted)))
+said a b c d = pick (not a) (Err Length) (pick (not b) (Err BadText) (pick (not c) (Err BadIndex) (pick d (Err NoRoom) (Ok tt))))
 
 module _ (t text : List ℕ) where
   -- the verdict is the same by every reading
@@ -60,7 +61,7 @@ module _ (t text : List ℕ) where
 
   module _ (s : sized t ≡ true) where
     -- 17 exactly where the text is no part list
-    pub malformed_iff_no_list : (import_verdict t text ≡ Refused BadText) ↔ NoList text
+    pub malformed_iff_no_list : (import_verdict t text ≡ Err BadText) ↔ NoList text
     malformed_iff_no_list = (
       λ e n ls h. not_text (list_fits n ls) (ltb (cells_of t) (length (cell_list n ls))) (sym (by_here n ls h) ∙ e),
       λ bad. by_none bad
@@ -72,7 +73,7 @@ module _ (t text : List ℕ) where
             import_verdict t text ≡ said true true (list_fits n ls) (ltb (cells_of t) (length (cell_list n ls)))
         by_here n ls h = by_list n ls h ∙ ap (λ a. said a true (list_fits n ls) (ltb (cells_of t) (length (cell_list n ls)))) s
 
-        not_text : (c d : Bool) → said true true c d ≡ Refused BadText → ⊥
+        not_text : (c d : Bool) → said true true c d ≡ Err BadText → ⊥
         not_text true true e = let z : ◌≡◌ {A = ℕ} 0 1 = cc in omega arith
         not_text true false e = let z : ◌≡◌ {A = ℕ} 0 1 = cc in omega arith
         not_text false d e = let z : ◌≡◌ {A = ℕ} 0 1 = cc in omega arith
@@ -82,20 +83,20 @@ module _ (t text : List ℕ) where
       here = by_list n ls h ∙ ap (λ a. said a true (list_fits n ls) (ltb (cells_of t) (length (cell_list n ls)))) s
 
       -- then 18 exactly where an index does not fit
-      pub unfit_iff_index : (import_verdict t text ≡ Refused BadIndex) ↔ (list_fits n ls ≡ false)
+      pub unfit_iff_index : (import_verdict t text ≡ Err BadIndex) ↔ (list_fits n ls ≡ false)
       unfit_iff_index = (
         λ e. was (list_fits n ls) (ltb (cells_of t) (length (cell_list n ls))) (sym here ∙ e),
         λ e. here ∙ ap
             (λ c. said true true c (ltb (cells_of t) (length (cell_list n ls)))) e,
       )
         where
-          was : (c d : Bool) → said true true c d ≡ Refused BadIndex → c ≡ false
+          was : (c d : Bool) → said true true c d ≡ Err BadIndex → c ≡ false
           was true true e = absurd (let z : ◌≡◌ {A = ℕ} 0 1 = cc in omega arith)
           was true false e = absurd (let z : ◌≡◌ {A = ℕ} 0 1 = cc in omega arith)
           was false d e = refl
 
       -- then 9 exactly where there are more cells than records
-      pub full_iff_cells : list_fits n ls ≡ true → (import_verdict t text ≡ Refused NoRoom) ↔ (cells_of t < length (cell_list n ls))
+      pub full_iff_cells : list_fits n ls ≡ true → (import_verdict t text ≡ Err NoRoom) ↔ (cells_of t < length (cell_list n ls))
       full_iff_cells fit = (
         λ e. ltb-true (cells_of t) (length (cell_list n ls)) (was (ltb (cells_of t) (length (cell_list n ls))) (sym known ∙ e)),
         λ l. known
@@ -105,7 +106,7 @@ module _ (t text : List ℕ) where
           known : import_verdict t text ≡ said true true true (ltb (cells_of t) (length (cell_list n ls)))
           known = here ∙ ap (λ c. said true true c (ltb (cells_of t) (length (cell_list n ls)))) fit
 
-          was : (d : Bool) → said true true true d ≡ Refused NoRoom → d ≡ true
+          was : (d : Bool) → said true true true d ≡ Err NoRoom → d ≡ true
           was true e = refl
           was false e = absurd (let z : ◌≡◌ {A = ℕ} 0 1 = cc in omega arith)
 
@@ -121,11 +122,11 @@ module _ (t text : List ℕ) where
     pub size : Sized t
     pub table : import_leaves t text ≡ list_table (cells_of t) (cell_list count lines)
 
-  pub accepted_list : import_verdict t text ≡ Accepted → AcceptedList
+  pub accepted_list : import_verdict t text ≡ Ok tt → AcceptedList
   unfolding import_verdict import_leaves
   accepted_list e = go (reading text) e refl
     where
-      go : (w : Reading text) → verdict_by t w ≡ Accepted → leaves_by t (reading text) ≡ leaves_by t w → AcceptedList
+      go : (w : Reading text) → verdict_by t w ≡ Ok tt → leaves_by t (reading text) ≡ leaves_by t w → AcceptedList
       go (none bad) a l = absurd (let k = accepted_none_applies (grounds_by t (none bad)) a in false≢true (sym k.1.0))
       go (list n ls h) a l =
           let k = accepted_none_applies (grounds_by t (list n ls h)) a in
@@ -141,7 +142,7 @@ module _ (t text : List ℕ) where
 
   -- what is left is the table of the list that the text reads as
   pub accepted_table_of_list :
-      import_verdict t text ≡ Accepted → (n : ℕ) (ls : List (List ℕ)) → IsList text n ls → TableOfList n ls (import_leaves t text)
+      import_verdict t text ≡ Ok tt → (n : ℕ) (ls : List (List ℕ)) → IsList text n ls → TableOfList n ls (import_leaves t text)
   accepted_table_of_list e n ls h =
       let a = accepted_list e in
       let u = reading_unique text a.count n a.lines ls a.is_list h in

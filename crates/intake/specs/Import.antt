@@ -5,7 +5,7 @@ use Rattle.counting.specs.Counting.{pick}
 use Rattle.calls.specs.Calls.{Ground, verdict, on_verdict}
 use Rattle.calls.specs.Numbers.{number_of}
 use Rattle.calls.specs.declared.Refusal.TheVariants.{BadText, BadIndex, NoRoom}
-use Rattle.calls.specs.declared.Verdict.{Verdict}
+use Rattle.calls.specs.Calls.{Verdict}
 use Rattle.table.specs.Kind.{free_mark}
 use Rattle.table.specs.Table.{cells_of, on_length}
 use Rattle.partlist.specs.Text.{Reading}

@@ -3,124 +3,92 @@
 // cells is complete the corners of each cell give way to its faces, from the top down too, since a face stands below its cell.
 #![tactic(auto)]
 
-ghost use Rattle.std.specs.Prelude.{◌≡◌, true, [], ◌≤◌, ◌<◌, take};
-ghost use Rattle.table.specs.Kind.{capacity, faces, free_mark};
+ghost use Rattle.std.specs.Prelude.{true, [], ◌≤◌, ◌<◌};
+ghost use Rattle.table.specs.Kind.{capacity};
 ghost use Rattle.table.specs.Table.{cells_of};
-ghost use Rattle.partlist.specs.Indices.{Fit};
 ghost use Rattle.partlist.specs.Sweep.{points_from};
 ghost use Rattle.lines.specs.Scans.{Opens, Scanned};
 ghost use Rattle.corners.specs.Scratch.{Kept};
-ghost use Rattle.intake.specs.Steps.{TakesLine, Gathers, SweepsCell, Sweeps, FaceNumbers, PutsFaces, Fills};
+ghost use Rattle.intake.specs.Steps.{Gathers, SweepsCell, Sweeps, FaceNumbers, PutsFaces, Fills};
 ghost use Rattle.intake.specs.Import.{import_verdict, import_leaves};
 ghost use Rattle.calls.specs.Calls.{Ends};
 
-use calls::{Refusal, Verdict};
-use lines::Scan;
-use table::Table;
+use calls::Refusal;
+use table::{Record, Table};
 
 // Takes the points 0 to n − 1 in. They are the first cells.
 fn take_points(t: &mut [u16], n: usize)
     requires { (n ≤ cells_of t.old) × (n ≤ capacity) × Kept (cells_of t.old) t.old [] }
     ensures { Kept (cells_of t.old) t.new (points_from 0 n) }
 {
-    let mut c = 0;
-    while c < n {
-        let mut words = [Table::FREE; Table::FACES];
-        words[0] = c as u16;
-        Table::put(t, c, 0, words);
-        c += 1;
+    for c in 0..n {
+        let mut faces = [Table::FREE; Table::FACES];
+        faces[0] = c as u16;
+        Table::put(t, c, Record { dim: 0, faces });
     }
 }
 
-// Takes the cell of a line in, among the m cells that there are, and answers how many there are then.
-fn take_line(t: &mut [u16], m: usize, numbers: [u32; Table::FACES], count: usize) -> usize
-    requires { (m ≤ cells_of t.old) × (1 ≤ count) × (count ≤ faces) × Fit free_mark (take count numbers) }
-    ensures { TakesLine t.old t.new m (take count numbers) result }
-{
-    let words = corners::sorted(numbers, count);
-    corners::take_in(t, m, (count - 1) as u16, words)
-}
-
-// Takes the lines in, whose indices are all below n, after the n points. The answer is how many cells there are then, or, once there
-// is one too many, a number above the room.
-fn take_lines(t: &mut [u16], text: &[u8], start: usize, n: usize) -> usize
+// Takes the lines in, whose indices are all below n, after the n points, and answers how many cells there are then.
+fn take_lines(t: &mut [u16], text: &[u8], start: usize, n: usize) -> Result<usize, Refusal>
     requires { (n ≤ cells_of t.old) × (n ≤ capacity) × Kept (cells_of t.old) t.old (points_from 0 n) × Opens text.now n start × Scanned text.now n true }
     ensures { Gathers text.now n (cells_of t.old) t.new result }
 {
-    let room = Table::room(t);
     let mut m = n;
     let mut at = start;
+    // Each line tells where the next one begins.
     while at < text.len() {
-        let line = lines::read_line(text, at);
-        let numbers = line.numbers;
-        m = take_line(t, m, numbers, line.count);
-        if m > room {
-            return m;
-        }
-        at = line.next;
+        // The scan has found a line wherever the text has not ended.
+        let (line, next) = lines::read_line(text, at).unwrap();
+        m = corners::take_in(t, m, corners::of_line(line.numbers()))?;
+        at = next;
     }
-    m
+    Ok(m)
 }
 
 // Takes the facets of cell c in, and answers how many cells there are then. Cell c has moved up by as many as came in. The facets of a
 // point and of an edge are points, which are there.
-fn take_facets(t: &mut [u16], c: usize, before: usize) -> usize
+fn take_facets(t: &mut [u16], c: usize, before: usize) -> Result<usize, Refusal>
     requires { (c < before) × (before ≤ cells_of t.old) }
     ensures { SweepsCell (cells_of t.old) t.old t.new c before result }
 {
-    let p = Table::dim(t, c);
-    if p < 2 {
-        return before;
+    let cell = Table::record(t, c);
+    if cell.dim < 2 {
+        return Ok(before);
     }
-    let used = Table::used(p);
-    let words = Table::faces(t, c);
-    let room = Table::room(t);
     let mut m = before;
-    let mut j = 0;
-    while j < used {
-        let facet = corners::without(words, j);
-        m = corners::take_in(t, m, p - 1, facet);
-        if m > room {
-            return m;
-        }
-        j += 1;
+    for j in 0..Table::used(cell.dim) {
+        m = corners::take_in(t, m, corners::facet(cell, j))?;
     }
-    m
+    Ok(m)
 }
 
 // Takes the facets of every cell in, from the top down. Facets of facets come in below, so every part of every line is reached.
-fn sweep(t: &mut [u16], before: usize) -> usize
+fn sweep(t: &mut [u16], before: usize) -> Result<usize, Refusal>
     requires { before ≤ cells_of t.old }
     ensures { Sweeps (cells_of t.old) t.old t.new before result }
 {
-    let room = Table::room(t);
     let mut m = before;
     let mut c = before;
+    // Cell c moves up by as many as come in below it.
     while c > 0 {
-        let grown = take_facets(t, c - 1, m);
-        if grown > room {
-            return grown;
-        }
+        let grown = take_facets(t, c - 1, m)?;
         c = c - 1 + (grown - m);
         m = grown;
     }
-    m
+    Ok(m)
 }
 
-// The faces of cell c, a p-cell with these corners: the numbers of its facets, which stand among the cells below it.
-fn face_numbers(t: &[u16], c: usize, p: u16, words: [u16; Table::FACES]) -> [u16; Table::FACES]
-    requires { (c ≤ cells_of t.now) × (c ≤ capacity) }
-    ensures { FaceNumbers t.now c p words result }
+// The faces of cell c: the numbers of its facets, which stand among the cells below it.
+fn face_numbers(t: &[u16], c: usize) -> [u16; Table::FACES]
+    requires { (c < cells_of t.now) × (c ≤ capacity) }
+    ensures { FaceNumbers t.now c result }
 {
-    let used = Table::used(p);
-    let mut f = [Table::FREE; Table::FACES];
-    let mut j = 0;
-    while j < used {
-        let facet = corners::without(words, j);
-        f[j] = corners::number_of(t, c, p - 1, facet);
-        j += 1;
+    let cell = Table::record(t, c);
+    let mut numbers = [Table::FREE; Table::FACES];
+    for j in 0..Table::used(cell.dim) {
+        numbers[j] = corners::number_of(t, c, corners::facet(cell, j));
     }
-    f
+    numbers
 }
 
 // Puts the faces of the first m cells where their corners stood, from the top down: the cells below still have their corners.
@@ -128,58 +96,37 @@ fn put_faces(t: &mut [u16], m: usize)
     requires { (m ≤ cells_of t.old) × (m ≤ capacity) }
     ensures { PutsFaces (cells_of t.old) t.old m t.new }
 {
-    let mut c = m;
-    while c > 0 {
-        c -= 1;
-        let p = Table::dim(t, c);
-        let words = Table::faces(t, c);
-        let f = face_numbers(t, c, p, words);
-        Table::put_faces(t, c, f);
+    for c in (0..m).rev() {
+        let numbers = face_numbers(t, c);
+        Table::put_faces(t, c, numbers);
     }
 }
 
-// Fills an emptied table from a text that is a part list whose indices fit, and says whether the cells have room. Where they have not,
-// what is left in the table is scratch.
-fn fill(t: &mut [u16], text: &[u8], start: usize, n: usize) -> bool
+// Fills an emptied table from a text that is a part list whose indices fit. Where the cells have no room, what is left in the table is
+// scratch.
+fn fill(t: &mut [u16], text: &[u8], start: usize, n: usize) -> Result<(), Refusal>
     requires { (cells_of t.old ≤ capacity) × Kept (cells_of t.old) t.old [] × Opens text.now n start × Scanned text.now n true }
     ensures { Fills text.now n (cells_of t.old) t.new result }
 {
-    let room = Table::room(t);
-    if n > room {
-        return false;
+    if n > Table::room(t) {
+        return Err(Refusal::NoRoom);
     }
     take_points(t, n);
-    let gathered = take_lines(t, text, start, n);
-    if gathered > room {
-        return false;
-    }
-    let m = sweep(t, gathered);
-    if m > room {
-        return false;
-    }
+    let gathered = take_lines(t, text, start, n)?;
+    let m = sweep(t, gathered)?;
     put_faces(t, m);
-    true
+    Ok(())
 }
 
 // Fills the table from a part list. Refused with 1, 17, 18, 9, in that order: with 1 no word changes, with any other every word is the
 // free mark.
-pub fn import(t: &mut [u16], text: &[u8]) -> Verdict
+pub fn import(t: &mut [u16], text: &[u8]) -> Result<(), Refusal>
     ensures { Ends (import_verdict t.old text.now) (import_leaves t.old text.now) result t.new }
 {
-    let emptied = audit::empty(t);
-    if let Verdict::Refused(r) = emptied {
-        return Verdict::Refused(r);
+    audit::empty(t)?;
+    let (n, start) = lines::scan_text(text)?;
+    if let Err(why) = fill(t, text, start, n as usize) {
+        return audit::refused(t, why);
     }
-    let scan = lines::scan_text(text);
-    match scan {
-        Scan::Unreadable => Verdict::Refused(Refusal::BadText),
-        Scan::Unfit => Verdict::Refused(Refusal::BadIndex),
-        Scan::Fit(n, start) => {
-            if fill(t, text, start, n as usize) {
-                Verdict::Accepted
-            } else {
-                audit::refused(t, Refusal::NoRoom)
-            }
-        }
-    }
+    Ok(())
 }

@@ -16,7 +16,7 @@ use lib.ListN.{length}
 use Rattle.calls.specs.Calls.{Ground, verdict}
 use Rattle.calls.specs.declared.Refusal.{Refusal}
 use Rattle.calls.specs.declared.Refusal.TheVariants.{NoRoom}
-use Rattle.calls.specs.declared.Verdict.TheVariants.{Refused}
+use Rattle.std.specs.declared.result.Result.TheVariants.{Err}
 use Rattle.calls.proofs.Givens.{Each, refused_has}
 use Rattle.counting.proofs.Cases.{true_or_false}
 use Rattle.homology.specs.Cells.{Cells}
@@ -49,44 +49,44 @@ use Rattle.sketch.proofs.Described.{described_sized}
 plain : {n : ℕ} {b : Bool} → 2 < n → b ≡ true → (2 < n) × Unit {0}
 plain h on = (h, tt)
 
-pub tells_audit : (t : List ℕ) (r : Refusal) → verdict (audit_grounds t) ≡ Refused r → Tells t r
+pub tells_audit : (t : List ℕ) (r : Refusal) → verdict (audit_grounds t) ≡ Err r → Tells t r
 tells_audit t r e = tells_alone t [] r tt e
 
-pub tells_merge : (t : List ℕ) (a b : ℕ) (r : Refusal) → merge_verdict t a b ≡ Refused r → Tells t r
+pub tells_merge : (t : List ℕ) (a b : ℕ) (r : Refusal) → merge_verdict t a b ≡ Err r → Tells t r
 unfolding merge_verdict
 tells_merge t a b r e =
     tells_alone t (pair_grounds t a b ++ on_faces t a b) r (plain (omega arith), (plain (omega arith), (plain (omega arith), (plain (omega arith), tt)))) e
 
-pub tells_weld : (t : List ℕ) (a b : ℕ) (r : Refusal) → weld_verdict t a b ≡ Refused r → Tells t r
+pub tells_weld : (t : List ℕ) (a b : ℕ) (r : Refusal) → weld_verdict t a b ≡ Err r → Tells t r
 unfolding weld_verdict
 tells_weld t a b r e = tells_alone t (pair_grounds t a b) r (plain (omega arith), (plain (omega arith), (plain (omega arith), tt))) e
 
-pub tells_compact : (t list : List ℕ) (r : Refusal) → compact_verdict t list ≡ Refused r → Tells t r
+pub tells_compact : (t list : List ℕ) (r : Refusal) → compact_verdict t list ≡ Err r → Tells t r
 unfolding compact_verdict
 tells_compact t list r e = tells_with t (eqb (length list) (cells_of t)) [] r tt e
 
-pub tells_cone : (t marks : List ℕ) (r : Refusal) → cone_verdict t marks ≡ Refused r → Tells t r
+pub tells_cone : (t marks : List ℕ) (r : Refusal) → cone_verdict t marks ≡ Err r → Tells t r
 unfolding cone_verdict
 tells_cone t marks r e =
     let own : List Ground = mark_grounds t marks ++ (record { refusal = NoRoom; applies = no_room t marks } ∷ []) in
     tells_with t (marks_fit t marks) own r (plain (omega arith), (plain (omega arith), (plain (omega arith), (plain (omega arith), tt)))) e
 
-pub tells_incidence : (t : List ℕ) (s u : ℕ) (r : Refusal) → verdict (incidence_grounds t s u) ≡ Refused r → Tells t r
+pub tells_incidence : (t : List ℕ) (s u : ℕ) (r : Refusal) → verdict (incidence_grounds t s u) ≡ Err r → Tells t r
 tells_incidence t s u r e = tells_alone t (cell_grounds t s u) r (plain (omega arith), (plain (omega arith), tt)) e
 
-pub tells_boundary : (t : List ℕ) (x : List ℤ) (p : ℕ) (y : List ℤ) (r : Refusal) → boundary_verdict t x p y ≡ Refused r → Tells t r
+pub tells_boundary : (t : List ℕ) (x : List ℤ) (p : ℕ) (y : List ℤ) (r : Refusal) → boundary_verdict t x p y ≡ Err r → Tells t r
 unfolding boundary_verdict
 tells_boundary t x p y r e =
     tells_with t (lengths_fit t x y) (chain_grounds t x p) r (plain (omega arith), (plain (omega arith), (plain (omega arith), tt))) e
 
-pub tells_corner : (t : List ℕ) (c k : ℕ) (r : Refusal) → verdict (corner_grounds t c k) ≡ Refused r → Tells t r
+pub tells_corner : (t : List ℕ) (c k : ℕ) (r : Refusal) → verdict (corner_grounds t c k) ≡ Err r → Tells t r
 tells_corner t c k r e = tells_alone t (own_grounds t c k) r (plain (omega arith), (plain (omega arith), tt)) e
 
-pub tells_reduce : (t ev : List ℕ) (r : Refusal) → reduce_verdict t ev ≡ Refused r → Tells t r
+pub tells_reduce : (t ev : List ℕ) (r : Refusal) → reduce_verdict t ev ≡ Err r → Tells t r
 unfolding reduce_verdict
 tells_reduce t ev r e = tells_with t (eqb (length ev) (evidence_words (cells t))) [] r tt e
 
-pub tells_write : (t target : List ℕ) (r : Refusal) → write_verdict t target ≡ Refused r → Tells t r
+pub tells_write : (t target : List ℕ) (r : Refusal) → write_verdict t target ≡ Err r → Tells t r
 unfolding write_verdict
 tells_write t target r e =
     tells_alone t (record { refusal = NoRoom; applies = ltb (length target) (length (file_of t)) } ∷ []) r (plain (omega arith), tt) e
@@ -100,7 +100,7 @@ rows_own K ev c (suc k) h = (λ on. (omega arith, omega arith), (λ on. (omega a
 unsized : (t : List ℕ) (fit : Bool) (own : List Ground) → sized t ≡ false → verdict (grounds_with t fit own) ≡ verdict (grounds_with t fit [])
 unsized t fit own e = rw e
 
-pub tells_check : (t ev : List ℕ) (r : Refusal) → check_verdict t ev ≡ Refused r → Tells t r
+pub tells_check : (t ev : List ℕ) (r : Refusal) → check_verdict t ev ≡ Err r → Tells t r
 unfolding check_verdict
 tells_check t ev r e =
     ⊎_elim
@@ -109,7 +109,7 @@ tells_check t ev r e =
     (true_or_false (sized t))
 
 -- the reader, after its length: its own two grounds, then the validity of what the file describes
-pub tells_read : (t f : List ℕ) (r : Refusal) → sized t ≡ true → read_verdict t f ≡ Refused r → Tells (described (cells_of t) f) r
+pub tells_read : (t f : List ℕ) (r : Refusal) → sized t ≡ true → read_verdict t f ≡ Err r → Tells (described (cells_of t) f) r
 unfolding read_verdict
 tells_read t f r s e =
     let u : List ℕ = described (cells_of t) f in
@@ -127,7 +127,7 @@ tells_read t f r s e =
     ) e
 
 -- taking a part list in gives no 2
-pub import_fits : (t text : List ℕ) (r : Refusal) → import_verdict t text ≡ Refused r → WordFits r
+pub import_fits : (t text : List ℕ) (r : Refusal) → import_verdict t text ≡ Err r → WordFits r
 unfolding import_verdict
 import_fits t text r e =
     refused_has WordFits (grounds_by t (reading text)) r (λ on. tt, (λ on. tt, (λ on. tt, (λ on. tt, tt)))) e

@@ -9,7 +9,7 @@ use native.Mathlib.Omega.{arith}
 use Rattle.calls.specs.Calls.{verdict}
 use Rattle.calls.specs.Order.{Lowest}
 use Rattle.calls.specs.declared.Refusal.{Refusal}
-use Rattle.calls.specs.declared.Verdict.TheVariants.{Refused}
+use Rattle.std.specs.declared.result.Result.TheVariants.{Err}
 use Rattle.calls.proofs.Order.{lowest_applies}
 use Rattle.table.specs.Table.{on_length}
 use Rattle.audit.specs.Audit.{audit_grounds}
@@ -23,44 +23,44 @@ use Rattle.corner.specs.Corner.{corner_grounds}
 use Rattle.reducer.specs.Reduce.{reduce_grounds, reduce_verdict}
 use Rattle.sketch.specs.Written.{write_grounds, write_verdict}
 
-pub lowest_empty : (t : List ℕ) (r : Refusal) → empty_verdict t ≡ Refused r → Lowest (on_length t ∷ []) r
+pub lowest_empty : (t : List ℕ) (r : Refusal) → empty_verdict t ≡ Err r → Lowest (on_length t ∷ []) r
 lowest_empty t r e = lowest_applies 0 (on_length t ∷ []) r (omega arith, tt) e
 
-pub lowest_audit : (t : List ℕ) (r : Refusal) → verdict (audit_grounds t) ≡ Refused r → Lowest (audit_grounds t) r
+pub lowest_audit : (t : List ℕ) (r : Refusal) → verdict (audit_grounds t) ≡ Err r → Lowest (audit_grounds t) r
 lowest_audit t r e = lowest_applies 0 (audit_grounds t) r (omega arith, (omega arith, tt)) e
 
-pub lowest_cone : (t marks : List ℕ) (r : Refusal) → cone_verdict t marks ≡ Refused r → Lowest (cone_grounds t marks) r
+pub lowest_cone : (t marks : List ℕ) (r : Refusal) → cone_verdict t marks ≡ Err r → Lowest (cone_grounds t marks) r
 unfolding cone_verdict
 lowest_cone t marks r e =
     lowest_applies 0 (cone_grounds t marks) r (omega arith, (omega arith, (omega arith, (omega arith, (omega arith, (omega arith, tt)))))) e
 
-pub lowest_merge : (t : List ℕ) (a b : ℕ) (r : Refusal) → merge_verdict t a b ≡ Refused r → Lowest (merge_grounds t a b) r
+pub lowest_merge : (t : List ℕ) (a b : ℕ) (r : Refusal) → merge_verdict t a b ≡ Err r → Lowest (merge_grounds t a b) r
 unfolding merge_verdict
 lowest_merge t a b r e =
     lowest_applies 0 (merge_grounds t a b) r (omega arith, (omega arith, (omega arith, (omega arith, (omega arith, (omega arith, tt)))))) e
 
-pub lowest_weld : (t : List ℕ) (a b : ℕ) (r : Refusal) → weld_verdict t a b ≡ Refused r → Lowest (weld_grounds t a b) r
+pub lowest_weld : (t : List ℕ) (a b : ℕ) (r : Refusal) → weld_verdict t a b ≡ Err r → Lowest (weld_grounds t a b) r
 unfolding weld_verdict
 lowest_weld t a b r e =
     lowest_applies 0 (weld_grounds t a b) r (omega arith, (omega arith, (omega arith, (omega arith, (omega arith, tt))))) e
 
-pub lowest_compact : (t list : List ℕ) (r : Refusal) → compact_verdict t list ≡ Refused r → Lowest (compact_grounds t list) r
+pub lowest_compact : (t list : List ℕ) (r : Refusal) → compact_verdict t list ≡ Err r → Lowest (compact_grounds t list) r
 unfolding compact_verdict
 lowest_compact t list r e = lowest_applies 0 (compact_grounds t list) r (omega arith, (omega arith, tt)) e
 
-pub lowest_incidence : (t : List ℕ) (s u : ℕ) (r : Refusal) → verdict (incidence_grounds t s u) ≡ Refused r → Lowest (incidence_grounds t s u) r
+pub lowest_incidence : (t : List ℕ) (s u : ℕ) (r : Refusal) → verdict (incidence_grounds t s u) ≡ Err r → Lowest (incidence_grounds t s u) r
 lowest_incidence t s u r e =
     lowest_applies 0 (incidence_grounds t s u) r (omega arith, (omega arith, (omega arith, (omega arith, tt)))) e
 
-pub lowest_corner : (t : List ℕ) (c k : ℕ) (r : Refusal) → verdict (corner_grounds t c k) ≡ Refused r → Lowest (corner_grounds t c k) r
+pub lowest_corner : (t : List ℕ) (c k : ℕ) (r : Refusal) → verdict (corner_grounds t c k) ≡ Err r → Lowest (corner_grounds t c k) r
 lowest_corner t c k r e =
     lowest_applies 0 (corner_grounds t c k) r (omega arith, (omega arith, (omega arith, (omega arith, tt)))) e
 
-pub lowest_reduce : (t ev : List ℕ) (r : Refusal) → reduce_verdict t ev ≡ Refused r → Lowest (reduce_grounds t ev) r
+pub lowest_reduce : (t ev : List ℕ) (r : Refusal) → reduce_verdict t ev ≡ Err r → Lowest (reduce_grounds t ev) r
 unfolding reduce_verdict
 lowest_reduce t ev r e = lowest_applies 0 (reduce_grounds t ev) r (omega arith, (omega arith, tt)) e
 
-pub lowest_write : (t target : List ℕ) (r : Refusal) → write_verdict t target ≡ Refused r → Lowest (write_grounds t target) r
+pub lowest_write : (t target : List ℕ) (r : Refusal) → write_verdict t target ≡ Err r → Lowest (write_grounds t target) r
 unfolding write_verdict
 lowest_write t target r e =
     lowest_applies 0 (write_grounds t target) r (omega arith, (omega arith, (omega arith, tt))) e

@@ -5,7 +5,8 @@ use Rattle.std.specs.Prelude.{◌≡◌, List, ℕ, ℤ}
 use Rattle.counting.specs.Counting.{listed}
 use Rattle.calls.specs.Calls.{verdict, Ends}
 use Rattle.calls.specs.declared.Refusal.{Refusal}
-use Rattle.calls.specs.declared.Verdict.TheVariants.{Accepted, Refused}
+use Rattle.std.specs.declared.result.Result.TheVariants.{Ok, Err}
+use Prim.{tt}
 use Rattle.homology.specs.Evidence.{cells_in, holes_in}
 use Rattle.table.specs.Kind.{dimensions}
 use Rattle.audit.specs.Audit.{audit_grounds}
@@ -25,7 +26,7 @@ use Rattle.checker.specs.Check.{check_verdict}
 use Rattle.writer.specs.Write.{write_answer, write_leaves}
 use Rattle.sketch.specs.Read.{read_verdict, read_leaves}
 use Rattle.intake.specs.Import.{import_verdict, import_leaves}
-use Rattle.kernel.specs.Face.{code, named_code, named_value, sum_code, sum_value, judged_code, judged_value, written_code, written_value, seven_after, Fills}
+use Rattle.kernel.specs.Face.{code, value_after, judged_value, seven_after, Fills}
 
 abbrev pub EmptyEnds : List ℕ → ℕ → List ℕ → Type 0
 EmptyEnds t r t' = Ends (code (empty_verdict t)) (empty_leaves t) r t'
@@ -35,15 +36,15 @@ AuditEnds t r = r ≡ code (verdict (audit_grounds t))
 
 abbrev pub ConeEnds : List ℕ → List ℕ → ℕ → ℕ → List ℕ → ℕ → Type 0
 ConeEnds t marks apex₀ r t' apex =
-    Fills (named_code (cone_answer t marks)) (cone_leaves t marks) (named_value (cone_answer t marks) apex₀) r t' apex
+    Fills (code (cone_answer t marks)) (cone_leaves t marks) (value_after (cone_answer t marks) apex₀) r t' apex
 
 abbrev pub MergeEnds : List ℕ → ℕ → ℕ → ℕ → ℕ → List ℕ → ℕ → Type 0
 MergeEnds t a b kept₀ r t' kept =
-    Fills (named_code (merge_answer t a b)) (merge_leaves t a b) (named_value (merge_answer t a b) kept₀) r t' kept
+    Fills (code (merge_answer t a b)) (merge_leaves t a b) (value_after (merge_answer t a b) kept₀) r t' kept
 
 abbrev pub WeldEnds : List ℕ → ℕ → ℕ → ℕ → ℕ → List ℕ → ℕ → Type 0
 WeldEnds t a b kept₀ r t' kept =
-    Fills (named_code (weld_answer t a b)) (weld_leaves t a b) (named_value (weld_answer t a b) kept₀) r t' kept
+    Fills (code (weld_answer t a b)) (weld_leaves t a b) (value_after (weld_answer t a b) kept₀) r t' kept
 
 -- a compaction: the table and the list
 pub record CompactEnds (t list : List ℕ) (r : ℕ) (t' list' : List ℕ) : Type 0 where
@@ -52,23 +53,23 @@ pub record CompactEnds (t list : List ℕ) (r : ℕ) (t' list' : List ℕ) : Typ
   pub numbers : list' ≡ compact_lists t list
 
 abbrev pub IncidenceEnds : List ℕ → ℕ → ℕ → ℤ → ℕ → ℤ → Type 0
-IncidenceEnds t s u sum₀ r sum = Ends (sum_code (incidence_answer t s u)) (sum_value (incidence_answer t s u) sum₀) r sum
+IncidenceEnds t s u sum₀ r sum = Ends (code (incidence_answer t s u)) (value_after (incidence_answer t s u) sum₀) r sum
 
 abbrev pub BoundaryEnds : List ℕ → List ℤ → ℕ → List ℤ → ℕ → List ℤ → Type 0
 BoundaryEnds t x p result₀ r result =
     Ends (code (boundary_verdict t x p result₀)) (boundary_leaves t x p result₀) r result
 
 abbrev pub CornerEnds : List ℕ → ℕ → ℕ → ℕ → ℕ → ℕ → Type 0
-CornerEnds t c k corner₀ r corner = Ends (named_code (corner_answer t c k)) (named_value (corner_answer t c k) corner₀) r corner
+CornerEnds t c k corner₀ r corner = Ends (code (corner_answer t c k)) (value_after (corner_answer t c k) corner₀) r corner
 
 abbrev pub SheetEnds : List ℕ → ℕ → ℕ → ℕ → Type 0
-SheetEnds t told₀ r told = Ends (judged_code (sheet_answer t)) (judged_value (sheet_answer t) told₀) r told
+SheetEnds t told₀ r told = Ends (code (sheet_answer t)) (judged_value (sheet_answer t) told₀) r told
 
 -- the reducer: rows and counts by its rule on acceptance, nothing changed on a refusal
 pub record ReduceEnds (t ev additions₀ : List ℕ) (r : ℕ) (ev' additions : List ℕ) : Type 0 where
   pub answer : r ≡ code (reduce_verdict t ev)
-  pub refused_left : (x : Refusal) → reduce_verdict t ev ≡ Refused x → (ev' ≡ ev) × (additions ≡ additions₀)
-  pub accepted : reduce_verdict t ev ≡ Accepted → Reduction (cells t) ev' additions
+  pub refused_left : (x : Refusal) → reduce_verdict t ev ≡ Err x → (ev' ≡ ev) × (additions ≡ additions₀)
+  pub accepted : reduce_verdict t ev ≡ Ok tt → Reduction (cells t) ev' additions
 
 -- the checker: live cells and hole numbers on acceptance
 pub record CheckEnds (t ev cells₀ holes₀ : List ℕ) (r : ℕ) (cells' holes : List ℕ) : Type 0 where
@@ -78,7 +79,7 @@ pub record CheckEnds (t ev cells₀ holes₀ : List ℕ) (r : ℕ) (cells' holes
 
 abbrev pub WriteEnds : List ℕ → List ℕ → ℕ → ℕ → List ℕ → ℕ → Type 0
 WriteEnds t target₀ written₀ r target written =
-    Fills (written_code (write_answer t target₀)) (write_leaves t target₀) (written_value (write_answer t target₀) written₀) r target written
+    Fills (code (write_answer t target₀)) (write_leaves t target₀) (value_after (write_answer t target₀) written₀) r target written
 
 abbrev pub ReadEnds : List ℕ → List ℕ → ℕ → List ℕ → Type 0
 ReadEnds t f r t' = Ends (code (read_verdict t f)) (read_leaves t f) r t'

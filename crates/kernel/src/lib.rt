@@ -4,34 +4,31 @@
 
 ghost use Rattle.std.specs.Prelude.{◌≡◌};
 ghost use Rattle.calls.specs.Calls.{Ends};
-ghost use Rattle.kernel.specs.Face.{code, named_code, named_value};
+ghost use Rattle.kernel.specs.Face.{code, value_after};
 ghost use Rattle.kernel.specs.Calls.{EmptyEnds, AuditEnds, ConeEnds, MergeEnds, WeldEnds, CompactEnds, IncidenceEnds, BoundaryEnds, CornerEnds, SheetEnds, ReduceEnds, CheckEnds, WriteEnds, ReadEnds, ImportEnds};
 
-use calls::{Named, Verdict};
-use reading::Sum;
-use sheet::Judged;
-use writer::Written;
+use calls::Refusal;
 
 // 0 for an accepted call, else the refusal in one word.
-fn code_of(v: Verdict) -> u32
+fn code_of(v: Result<(), Refusal>) -> u32
     ensures { result ≡ code v }
 {
     match v {
-        Verdict::Accepted => 0,
-        Verdict::Refused(r) => calls::packed(r),
+        Ok(()) => 0,
+        Err(r) => r.into(),
     }
 }
 
-// The code of an answer that names a cell, which goes to `value`.
-fn name_cell(n: Named, value: &mut u16) -> u32
-    ensures { Ends (named_code n) (named_value n value.old) result value.new }
+// The code of an answer with a value, which goes to `value` on acceptance alone.
+fn tell<T: Copy>(answer: Result<T, Refusal>, value: &mut T) -> u32
+    ensures { Ends (code answer) (value_after answer value.old) result value.new }
 {
-    match n {
-        Named::Cell(c) => {
-            *value = c;
+    match answer {
+        Ok(x) => {
+            *value = x;
             0
         }
-        Named::NoCell(r) => calls::packed(r),
+        Err(r) => r.into(),
     }
 }
 
@@ -53,21 +50,21 @@ pub extern "C" fn bt_audit(table: &[u16]) -> u32
 pub extern "C" fn bt_cone(table: &mut [u16], marks: &[u64], apex: &mut u16) -> u32
     ensures { ConeEnds table.old marks.now apex.old result table.new apex.new }
 {
-    name_cell(cone::cone(table, marks), apex)
+    tell(cone::cone(table, marks), apex)
 }
 
 #[unsafe(no_mangle)]
 pub extern "C" fn bt_merge(table: &mut [u16], a: u16, b: u16, kept: &mut u16) -> u32
     ensures { MergeEnds table.old a b kept.old result table.new kept.new }
 {
-    name_cell(merge::merge(table, a, b), kept)
+    tell(merge::merge(table, a, b), kept)
 }
 
 #[unsafe(no_mangle)]
 pub extern "C" fn bt_weld(table: &mut [u16], a: u16, b: u16, kept: &mut u16) -> u32
     ensures { WeldEnds table.old a b kept.old result table.new kept.new }
 {
-    name_cell(weld::weld(table, a, b), kept)
+    tell(weld::weld(table, a, b), kept)
 }
 
 #[unsafe(no_mangle)]
@@ -81,14 +78,7 @@ pub extern "C" fn bt_compact(table: &mut [u16], list: &mut [u16]) -> u32
 pub extern "C" fn bt_incidence(table: &[u16], cell: u16, face: u16, sum: &mut i64) -> u32
     ensures { IncidenceEnds table.now cell face sum.old result sum.new }
 {
-    let answer = reading::incidence(table, cell, face);
-    match answer {
-        Sum::Is(z) => {
-            *sum = z;
-            0
-        }
-        Sum::NoSum(r) => calls::packed(r),
-    }
+    tell(reading::incidence(table, cell, face), sum)
 }
 
 #[unsafe(no_mangle)]
@@ -107,24 +97,19 @@ pub extern "C" fn bt_boundary(
 pub extern "C" fn bt_corner(table: &[u16], cell: u16, k: u16, corner: &mut u16) -> u32
     ensures { CornerEnds table.now cell k corner.old result corner.new }
 {
-    name_cell(corner::corner(table, cell, k), corner)
+    tell(corner::corner(table, cell, k), corner)
 }
 
 #[unsafe(no_mangle)]
 pub extern "C" fn bt_sheet(table: &[u16], yes: &mut u8) -> u32
     ensures { SheetEnds table.now yes.old result yes.new }
 {
-    let answer = sheet::sheet(table);
-    match answer {
-        Judged::Yes => {
-            *yes = 1;
+    match sheet::sheet(table) {
+        Ok(sheet) => {
+            *yes = u8::from(sheet);
             0
         }
-        Judged::No => {
-            *yes = 0;
-            0
-        }
-        Judged::NotJudged(r) => calls::packed(r),
+        Err(r) => r.into(),
     }
 }
 
@@ -144,17 +129,15 @@ pub extern "C" fn bt_check(
 ) -> u32
     ensures { CheckEnds table.now evidence.now cells.old holes.old result cells.new holes.new }
 {
-    let answer = checker::check(table, evidence);
-    let verdict = answer.verdict;
-    match verdict {
-        Verdict::Accepted => {
-            let live = answer.cells;
-            let found = answer.holes;
+    match checker::check(table, evidence) {
+        Ok(counts) => {
+            let live = counts.cells;
+            let found = counts.holes;
             *cells = live;
             *holes = found;
             0
         }
-        Verdict::Refused(r) => calls::packed(r),
+        Err(r) => r.into(),
     }
 }
 
@@ -162,14 +145,7 @@ pub extern "C" fn bt_check(
 pub extern "C" fn bt_write(table: &[u16], target: &mut [u8], written: &mut usize) -> u32
     ensures { WriteEnds table.now target.old written.old result target.new written.new }
 {
-    let answer = writer::write(table, target);
-    match answer {
-        Written::Bytes(n) => {
-            *written = n;
-            0
-        }
-        Written::NotWritten(r) => calls::packed(r),
-    }
+    tell(writer::write(table, target), written)
 }
 
 #[unsafe(no_mangle)]

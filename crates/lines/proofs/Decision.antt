@@ -12,7 +12,7 @@ use Rattle.counting.proofs.Cases.{below_or_not, same_or_not}
 use Rattle.partlist.specs.Text.{newline, space, digit_zero, most_digits, longest_line, Reading, Digit}
 use Rattle.partlist.specs.Text.Reading.{list, none}
 use Rattle.partlist.specs.Indices.{line_fits}
-use Rattle.lines.specs.Scans.{DigitIs, ReadsNumber, NoNumber, ReadsLine, NoLine, Opens}
+use Rattle.lines.specs.Scans.{ReadsDigit, ReadsNumber, NoNumber, ReadsLine, NoLine, Opens}
 use Rattle.lines.proofs.Numbers.{Begun, begun_none, begun_more, number_read, none_at_once, none_ended, none_sixth, none_zero}
 use Rattle.lines.proofs.LineReads.{Led, led_none, led_more, line_read, none_number, none_eighth, none_byte}
 use Rattle.lines.proofs.Counts.{no_count, count_read, no_newline}
@@ -22,7 +22,7 @@ use Rattle.lines.proofs.Wholes.{Onto, onto_first, onto_more, all_read, line_miss
 
 -- a byte is the digit d, or no digit
 data Byte (c : ℕ) : Type 0 where
-  is_digit : (d : ℕ) → d < 10 → DigitIs c d → Byte c
+  is_digit : (d : ℕ) → ReadsDigit c d → Byte c
   no_digit : (Digit c → ⊥) → Byte c
 
 byte : (c : ℕ) → Byte c
@@ -31,7 +31,7 @@ byte c = ⊎_elim (λ h. no_digit (λ d. omega (arith, h, d.low))) high (below_o
     high : digit_zero ≤ c → Byte c
     high h =
         ⊎_elim
-        (λ l. is_digit (c - digit_zero) l (record { yes = λ i. omega arith; none = λ i d. omega (arith, i, l) }))
+        (λ l. is_digit (c - digit_zero) (record { small = l; byte = omega arith }))
         (λ l. no_digit (λ d. omega (arith, l, d.high)))
         (below_or_not (c - digit_zero) 10)
 
@@ -47,15 +47,15 @@ module _ (text : List ℕ) (at k v : ℕ) (b : Begun text at k v) (h : at + k < 
       (λ z. no_number (none_at_once text at k v b h z e))
       (λ ne. number v (at + k) (number_read text at k v b h (omega (arith, ne)) e))
       (same_or_not k 0)
-  after_digits (is_digit d l e) =
+  after_digits (is_digit d r) =
       ⊎_elim
-      (λ five. no_number (none_sixth text at k v b d h five e l))
+      (λ five. no_number (none_sixth text at k v b d h five r))
       (λ few. ⊎_elim
       (λ z. ⊎_elim
-      (λ first. on (v * 10 + d) (begun_more text at k v b d h (omega (arith, few, b.few)) e l (inl first)))
-      (λ later. no_number (none_zero text at k v b d h z later e l))
+      (λ first. on (v * 10 + d) (begun_more text at k v b d h (omega (arith, few, b.few)) r (inl first)))
+      (λ later. no_number (none_zero text at k v b d h z later r))
       (same_or_not k 0))
-      (λ some. on (v * 10 + d) (begun_more text at k v b d h (omega (arith, few, b.few)) e l (inr (omega (arith, some)))))
+      (λ some. on (v * 10 + d) (begun_more text at k v b d h (omega (arith, few, b.few)) r (inr (omega (arith, some)))))
       (same_or_not v 0))
       (same_or_not k most_digits)
 

@@ -1,5 +1,6 @@
 pub mod Numbers
 pub mod LineReads
 pub mod Counts
+pub mod Fits
 pub mod Wholes
 pub mod Decision

@@ -1,17 +1,15 @@
 -- A line that is read number by number: the state on the way, the end, and the ways in which no line stands there.
 -- What carries it: each number passed stands before a space, so it is a number of any line that stands there. Assumes nothing.
-use mathlib.Core.Path.{◌≡◌, refl, sym, ap, ap₂, subst, ◌∙◌}
+use mathlib.Core.Path.{◌≡◌, refl, sym, ap, ap₂, ◌∙◌}
 use mathlib.Core.List.{List, [], ◌∷◌, ◌++◌, append_assoc}
 use Prim.Native.Nat.{ℕ, suc, ◌+◌, ◌≤◌, ◌<◌}
 use native.Mathlib.Omega.{arith}
-use native.Mathlib.Numerals.{add-one}
-use lib.ListN.{length, get_or, take, drop, set, length-append}
-use lib.Seq.{drop-cons, take-suc-set, length-take-le, take_all}
+use lib.ListN.{length, get_or, drop, length-append}
+use lib.Seq.{drop-cons}
 use Rattle.partlist.specs.Text.{newline, space, numbers_end, longest_line, numeral, line_rest, line_text, AllBelow, Digit}
 use Rattle.partlist.proofs.Numerals.{numeral_unique}
 use Rattle.partlist.proofs.Reading.{newline_no_digit, space_no_digit}
-use Rattle.lines.specs.Scans.{ReadsNumber, NoNumber, ReadsLine, NoLine, LineAt}
-use Rattle.lines.specs.declared.Line.{Line}
+use Rattle.lines.specs.Scans.{ReadsNumber, NoNumber, ReadsLine, NoLine}
 
 -- numbers, each with a space behind it
 pub spaced : List ℕ → List ℕ
@@ -154,28 +152,3 @@ module _ (text : List ℕ) (at : ℕ) (xs : List ℕ) (i : ℕ) (led : Led text 
         ∙ p.left ∙ ap (λ (x : List ℕ). numeral p.first ++ x) b.joined in
         let u = numeral_unique v p.first number.value p.short number.ended b.no_digit w in
         no-space (u.1 ∙ b.newline_or_space (λ k. no_newline (u.1 ∙ k)))
-
--- the numbers in seven places, c of them so far
-module _ (text : List ℕ) (at : ℕ) (ns : List ℕ) (c i : ℕ) (long : length ns ≡ longest_line) (few : c < longest_line) (led : Led text at (take c ns) i) where
-  one_more : (v : ℕ) → take (c + 1) (set ns c v) ≡ take c ns ++ (v ∷ [])
-  one_more v = rw (add-one c) (take-suc-set ns c v (omega arith))
-
-  module _ (v m : ℕ) (number : ReadsNumber text i v m) where
-    pub led_next : get_or text m 0 ≡ space → Led text at (take (c + 1) (set ns c v)) (m + 1)
-    led_next e = subst (λ (l : List ℕ). Led text at l (m + 1)) (sym (one_more v)) (led_more text at (take c ns) i led v m number e)
-
-    pub line_ended : get_or text m 0 ≡ newline → ReadsLine text at (take (c + 1) (set ns c v)) (m + 1)
-    line_ended e =
-        subst (λ (l : List ℕ). ReadsLine text at l (m + 1)) (sym (one_more v))
-        (line_read text at (take c ns) i led v m number (omega (arith, length-take-le c ns (omega arith))) e)
-
-pub taken_all : (ns : List ℕ) (c : ℕ) → length ns ≡ longest_line → longest_line ≤ c → longest_line ≤ length (take c ns)
-taken_all ns c e h = rw (take_all c ns (omega arith)) (omega arith)
-
--- what is answered: no line, or a line
-module _ (text : List ℕ) (at : ℕ) (r : Line) (long : length r.numbers ≡ longest_line) where
-  pub line_none : r.count ≡ 0 → NoLine (drop at text) → LineAt text at r
-  line_none z bad = record { most = omega arith; width = long; line = λ h. absurd (omega arith); none = λ e. bad }
-
-  pub line_some : 1 ≤ r.count → r.count ≤ longest_line → ReadsLine text at (take r.count r.numbers) r.next → LineAt text at r
-  line_some h most reads = record { most = most; width = long; line = λ e. reads; none = λ e. absurd (omega arith) }

@@ -1,10 +1,8 @@
 -- The whole text, line by line: the state on the way, the end, and a place where no line stands.
 -- What carries it: the lines passed are the first ones of any reading. Assumes nothing.
 use mathlib.Core.Path.{◌≡◌, refl, sym, ap, ap₂, subst, ◌∙◌}
-use mathlib.Core.Bool.{Bool, true, false, ◌&&◌}
+use mathlib.Core.Bool.{Bool, true, ◌&&◌}
 use mathlib.Core.List.{List, [], ◌∷◌, ◌++◌, append_assoc, append-nil}
-use mathlib.Core.Logic.{⊎_elim}
-use Rattle.counting.proofs.Cases.{same_or_not}
 use Prim.Native.Nat.{ℕ, ◌≤◌, ◌<◌}
 use native.Mathlib.Omega.{arith}
 use lib.ListN.{length, drop, length-drop, drop_of_length-le}
@@ -12,10 +10,7 @@ use Rattle.partlist.specs.Text.{numbers_end, line_text, text_of, AllLines, IsLis
 use Rattle.partlist.proofs.Reading.{Further, text_onward, no_reading, lines_more, text_more}
 use Rattle.partlist.specs.Indices.{line_fits, list_fits}
 use Rattle.partlist.proofs.Indices.{fits_more, fits_part}
-use Rattle.lines.specs.Scans.{ReadsLine, NoLine, LineAt, CountAt, Opens, Scanned}
-use Rattle.lines.specs.declared.Line.{Line}
-use Rattle.lines.specs.declared.Number.{Number}
-use Rattle.lines.specs.declared.Number.TheVariants.{Read, Malformed}
+use Rattle.lines.specs.Scans.{ReadsLine, NoLine, Opens, Scanned}
 
 -- the count n and some lines are passed, up to the place `at`, and `fit` says whether their indices fit
 pub record Onto (text : List ℕ) (n at : ℕ) (fit : Bool) : Type 0 where
@@ -25,12 +20,6 @@ pub record Onto (text : List ℕ) (n at : ℕ) (fit : Bool) : Type 0 where
   pub lines : AllLines passed
   pub reads : text ≡ text_of n passed ++ drop at text
   pub fits : list_fits n passed ≡ fit
-
-pub no_count_told : (text : List ℕ) (r : Number) → CountAt text r → r ≡ Malformed → NoList text
-no_count_told text r h e = subst (CountAt text) e h
-
-pub opens_told : (text : List ℕ) (n at : ℕ) (r : Number) → CountAt text r → r ≡ Read n at → Opens text n at
-opens_told text n at r h e = subst (CountAt text) e h
 
 unfoldable pub onto_first : (text : List ℕ) (n at : ℕ) → Opens text n at → Onto text n at true
 unfolding list_fits
@@ -78,23 +67,3 @@ module _ (text : List ℕ) (n at : ℕ) (fit : Bool) (o : Onto text n at fit) wh
   onto_fits ls e h =
       let p = onto_part ls e in
       sym o.fits ∙ fits_part n o.passed p.others (ap (list_fits n) (sym p.joined) ∙ h)
-
-  -- so a line stands where the text has not ended
-  pub line_there : at < length text → (r : Line) → LineAt text at r → (ls : List (List ℕ)) → IsList text n ls → 1 ≤ r.count
-  line_there h r l ls e =
-      ⊎_elim (λ z. absurd (line_missing h (l.none z) n ls e)) (λ z. omega (arith, z)) (same_or_not r.count 0)
-
--- a line whose indices do not fit, and one whose indices do
-pub unfit : (text : List ℕ) (n at : ℕ) (fit b : Bool) → b ≡ false → Onto text n at (fit && b) → Onto text n at false
-unfit text n at fit b e o = subst (Onto text n at) (ap (λ x. fit && x) e ∙ and_false fit) o
-  where
-    and_false : (x : Bool) → (x && false) ≡ false
-    and_false true = refl
-    and_false false = refl
-
-pub still_fit : (text : List ℕ) (n at : ℕ) (fit b : Bool) → b ≡ true → Onto text n at (fit && b) → Onto text n at fit
-still_fit text n at fit b e o = subst (Onto text n at) (ap (λ x. fit && x) e ∙ and_true fit) o
-  where
-    and_true : (x : Bool) → (x && true) ≡ x
-    and_true true = refl
-    and_true false = refl

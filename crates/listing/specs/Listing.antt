@@ -6,8 +6,9 @@ use Rattle.counting.specs.Counting.{pick}
 use Rattle.calls.specs.Numbers.{number_of}
 use Rattle.calls.specs.declared.Refusal.{Refusal}
 use Rattle.calls.specs.declared.Refusal.TheVariants.{BadText}
-use Rattle.calls.specs.declared.Verdict.{Verdict}
-use Rattle.calls.specs.declared.Verdict.TheVariants.{Accepted, Refused}
+use Rattle.calls.specs.Calls.{Verdict}
+use Rattle.std.specs.declared.result.Result.TheVariants.{Ok, Err}
+use Prim.{tt}
 use Rattle.table.specs.Kind.{capacity, width, free_mark}
 use Rattle.sketch.specs.Written.{file_of}
 use Rattle.report.specs.Lines.{refused_line}
@@ -23,8 +24,8 @@ blank = replicate (capacity * width) free_mark
 
 -- a longer text is refused as malformed
 unfoldable pub list_verdict : List ℕ → Verdict
-list_verdict text = pick (ltb longest_text (length text)) (Refused BadText) (import_verdict blank text)
+list_verdict text = pick (ltb longest_text (length text)) (Err BadText) (import_verdict blank text)
 
 pub record Lists (text out : List ℕ) : Type 0 where
-  pub refused : (r : Refusal) → list_verdict text ≡ Refused r → out ≡ refused_line (number_of r)
-  pub accepted : list_verdict text ≡ Accepted → out ≡ file_of (import_leaves blank text)
+  pub refused : (r : Refusal) → list_verdict text ≡ Err r → out ≡ refused_line (number_of r)
+  pub accepted : list_verdict text ≡ Ok tt → out ≡ file_of (import_leaves blank text)

@@ -4,16 +4,14 @@
 
 ghost use Rattle.std.specs.Prelude.{◌≡◌, ◌≤◌, length, take};
 ghost use Rattle.calls.specs.Numbers.{number_of};
-ghost use Rattle.table.specs.Table.{Valid};
 ghost use Rattle.sketch.specs.Form.{longest};
-ghost use Rattle.sketch.specs.Written.{file_of};
 ghost use Rattle.report.specs.Lines.{refused_line};
-ghost use Rattle.listing.specs.Listing.{longest_text, blank, Lists};
-ghost use Rattle.listing.specs.Steps.{Front, Converted};
+ghost use Rattle.listing.specs.Listing.{longest_text, Lists};
+ghost use Rattle.listing.specs.Steps.{Converted};
 
-use calls::{Refusal, Verdict};
+use calls::Refusal;
+use std::convert::AsSlice;
 use table::Table;
-use writer::Written;
 
 // The most bytes of a text that the program takes.
 pub const LONGEST_TEXT: usize = 65536;
@@ -24,53 +22,45 @@ fn same_numbers()
 {}
 
 // Puts the line of a refusal in front, and answers its length.
-fn put_line(why: Refusal, target: &mut [u8]) -> usize
-    requires { length target.old ≡ longest }
-    ensures { Front (refused_line (number_of why)) result target.new }
+fn put_line(why: Refusal, target: &mut [u8; sketch::LONGEST]) -> usize
+    ensures line { take result target.new ≡ refused_line (number_of why) }
+    ensures short { result ≤ longest }
 {
     let line = report::refused(why);
-    let bytes = line.bytes;
-    let len = line.len;
-    let mut i = 0;
-    while i < len {
-        target[i] = bytes[i];
-        i += 1;
-    }
-    len
+    let bytes = line.as_slice();
+    let n = bytes.len();
+    target[..n].copy_from_slice(bytes);
+    n
 }
 
-// Puts the sketch file of a valid table in front, and answers its length.
-fn put_file(t: &[u16], target: &mut [u8]) -> usize
-    requires { Valid t.now × (length target.old ≡ longest) }
-    ensures { Front (file_of t.now) result target.new }
-{
-    let written = writer::write(t, target);
-    match written {
-        Written::Bytes(n) => n,
-        Written::NotWritten(_) => 0,
-    }
-}
-
-// Takes the list into a blank table, and puts in front what comes of it.
-fn convert(t: &mut [u16], text: &[u8], target: &mut [u8]) -> usize
-    requires { (t.old ≡ blank) × (length target.old ≡ longest) }
+// Takes the list into a blank table, and puts its sketch file in front; the answer is the file's length.
+fn convert(text: &[u8], target: &mut [u8; sketch::LONGEST]) -> Result<usize, Refusal>
     ensures { Converted text.now result target.new }
 {
-    let verdict = intake::import(t, text);
-    match verdict {
-        Verdict::Accepted => put_file(t, target),
-        Verdict::Refused(why) => put_line(why, target),
+    if text.len() > LONGEST_TEXT {
+        return Err(Refusal::BadText);
     }
+    let mut table = [Table::FREE; Table::CAPACITY * Table::WORDS];
+    intake::import(&mut table, text)?;
+    writer::write(&table, target)
 }
 
 // What is written for a text, in front of the target; the answer is its length.
-pub fn listing(text: &[u8], target: &mut [u8]) -> usize
-    requires { length target.old ≡ longest }
-    ensures { Lists text.now (take result target.new) × (result ≤ longest) }
+pub fn listing(text: &[u8], target: &mut [u8; sketch::LONGEST]) -> usize
+    ensures lists { Lists text.now (take result target.new) }
+    ensures short { result ≤ longest }
 {
-    if text.len() > LONGEST_TEXT {
-        return put_line(Refusal::BadText, target);
+    match convert(text, target) {
+        Ok(n) => n,
+        Err(why) => put_line(why, target),
     }
-    let mut table = [Table::FREE; Table::CAPACITY * Table::WORDS];
-    convert(&mut table, text, target)
+}
+
+// The same, lent: the front of the target.
+pub fn listed<'a>(text: &[u8], target: &'a mut [u8; sketch::LONGEST]) -> &'a [u8]
+    ensures lists { Lists text.now result.now }
+    ensures short { length result.now ≤ longest }
+{
+    let n = listing(text, target);
+    &target[..n]
 }

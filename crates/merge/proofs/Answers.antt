@@ -5,7 +5,7 @@ use mathlib.Core.Path.{◌≡◌, refl, ap, ap₂, sym, subst, ◌∙◌, fun_ex
 use mathlib.Core.Bool.{and_comm}
 use mathlib.Core.List.{List}
 use mathlib.Core.Logic.{⊎_elim}
-use Prim.Native.Nat.{ℕ, min}
+use Prim.Native.Nat.{ℕ, min, max}
 use native.Mathlib.Nat.{min_comm}
 use borrow.Author.Tests.{eq-eqb, ne_eqb}
 use lib.Dec.{eqb}
@@ -14,12 +14,13 @@ use Rattle.table.specs.Table.{dim, face, live, Valid}
 use Rattle.counting.specs.Counting.{all}
 use Rattle.calls.specs.Calls.{named, leaves, Ends}
 use Rattle.calls.specs.declared.Refusal.{Refusal}
-use Rattle.calls.specs.declared.Verdict.{Verdict}
-use Rattle.calls.specs.declared.Verdict.TheVariants.{Accepted, Refused}
-use Rattle.calls.specs.declared.Named.TheVariants.{Cell, NoCell}
+use Rattle.calls.specs.Calls.{Verdict}
+use Rattle.std.specs.declared.result.Result.TheVariants.{Ok, Err}
+use Prim.{tt}
 use Rattle.counting.proofs.Cases.{same_or_not}
 use Rattle.merge.specs.Merge.{IsIdentification, same_faces, merge_verdict, merged, merge_answer, merge_leaves}
-use Rattle.merge.proofs.Renaming.{renamed_both_ways}
+use Rattle.merge.specs.Rename.{identify}
+use Rattle.merge.proofs.Renaming.{renamed_alike, renamed_both_ways, identify_in_order}
 use Rattle.merge.proofs.Verdicts.{merge_accepted}
 use Rattle.merge.proofs.Identification.{merged_is_identification}
 use Rattle.merge.proofs.Keeping.{merged_keeps_valid}
@@ -40,9 +41,14 @@ unfolding merge_verdict
 verdict_both_ways t a b =
     rw (and_comm (live t a) (live t b), eqb_both_ways a b, eqb_both_ways (dim t a) (dim t b), same_faces_both_ways t a b)
 
-pub merged_both_ways : (t : List ℕ) (a b : ℕ) → merged t a b ≡ merged t b a
+merged_both_ways : (t : List ℕ) (a b : ℕ) → merged t a b ≡ merged t b a
 unfolding merged
 merged_both_ways t a b = renamed_both_ways a b t
+
+-- nor which of the two is the smaller
+pub merged_in_order : (t : List ℕ) (a b l h : ℕ) → l ≡ min a b → h ≡ max a b → merged t l h ≡ merged t a b
+unfolding merged
+merged_in_order t a b l h low high = renamed_alike (identify l h) (identify a b) t (identify_in_order a b l h low high)
 
 pub merge_answer_same_both_ways : (t : List ℕ) (a b : ℕ) → merge_answer t a b ≡ merge_answer t b a
 merge_answer_same_both_ways t a b = ap₂ named (verdict_both_ways t a b) (min_comm a b)
@@ -52,7 +58,7 @@ merge_leaves_same_both_ways t a b =
     ap₂ (λ v u. leaves v u t) (verdict_both_ways t a b) (merged_both_ways t a b)
 
 -- What is left is valid,
-merge_keeps_valid : (t : List ℕ) (a b : ℕ) → merge_verdict t a b ≡ Accepted → Valid (merged t a b)
+merge_keeps_valid : (t : List ℕ) (a b : ℕ) → merge_verdict t a b ≡ Ok tt → Valid (merged t a b)
 merge_keeps_valid t a b e =
     let m = merge_accepted t a b e in
     merged_keeps_valid t a b m.pair.valid m.pair.first m.pair.second m.pair.same_dim m.same_faces_lem
@@ -61,31 +67,31 @@ pub merge_leaves_valid : (t : List ℕ) (a b : ℕ) → Valid t → Valid (merge
 merge_leaves_valid t a b valid = go (merge_verdict t a b) refl
   where
     go : (v : Verdict) → merge_verdict t a b ≡ v → Valid (leaves v (merged t a b) t)
-    go Accepted e = merge_keeps_valid t a b e
-    go (Refused r) e = valid
+    go (Ok tt) e = merge_keeps_valid t a b e
+    go (Err r) e = valid
 
 -- and it is the published identification, or the table itself.
-pub merge_accepted_leaves : (t : List ℕ) (a b : ℕ) → merge_verdict t a b ≡ Accepted → IsIdentification t a b (merge_leaves t a b)
+pub merge_accepted_leaves : (t : List ℕ) (a b : ℕ) → merge_verdict t a b ≡ Ok tt → IsIdentification t a b (merge_leaves t a b)
 merge_accepted_leaves t a b e =
     let m = merge_accepted t a b e in
     subst (IsIdentification t a b) (sym (ap (λ v. leaves v (merged t a b) t) e))
     (merged_is_identification t a b m.pair.valid m.pair.first m.pair.second m.pair.different)
 
-merge_refused_leaves : (t : List ℕ) (a b : ℕ) (r : Refusal) → merge_verdict t a b ≡ Refused r → merge_leaves t a b ≡ t
+merge_refused_leaves : (t : List ℕ) (a b : ℕ) (r : Refusal) → merge_verdict t a b ≡ Err r → merge_leaves t a b ≡ t
 merge_refused_leaves t a b r e = ap (λ v. leaves v (merged t a b) t) e
 
 -- The ways out of the call.
 pub ends_refused :
-    (t : List ℕ) (a b : ℕ) (r : Refusal) → merge_verdict t a b ≡ Refused r →
-    Ends (merge_answer t a b) (merge_leaves t a b) (NoCell r) t
+    (t : List ℕ) (a b : ℕ) (r : Refusal) → merge_verdict t a b ≡ Err r →
+    Ends (merge_answer t a b) (merge_leaves t a b) (Err r) t
 ends_refused t a b r e =
     record { answer = sym (ap (λ v. named v (min a b)) e); left = sym (merge_refused_leaves t a b r e) }
 
 pub ends_accepted :
-    (t : List ℕ) (a b c : ℕ) (u : List ℕ) → merge_verdict t a b ≡ Accepted → c ≡ min a b → u ≡ merged t a b →
-    Ends (merge_answer t a b) (merge_leaves t a b) (Cell c) u
+    (t : List ℕ) (a b c : ℕ) (u : List ℕ) → merge_verdict t a b ≡ Ok tt → c ≡ min a b → u ≡ merged t a b →
+    Ends (merge_answer t a b) (merge_leaves t a b) (Ok c) u
 ends_accepted t a b c u e m f =
     record {
-      answer = ap Cell m ∙ sym (ap (λ v. named v (min a b)) e);
+      answer = ap Ok m ∙ sym (ap (λ v. named v (min a b)) e);
       left = f ∙ sym (ap (λ v. leaves v (merged t a b) t) e);
     }

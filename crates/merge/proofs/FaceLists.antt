@@ -15,7 +15,8 @@ use Rattle.table.specs.Kind.{faces, used}
 use Rattle.table.specs.Table.{dim, face, faces_of, Live, Valid}
 use Rattle.calls.specs.declared.Refusal.{Refusal}
 use Rattle.calls.specs.declared.Refusal.TheVariants.{FacesDiffer}
-use Rattle.calls.specs.declared.Verdict.TheVariants.{Accepted, Refused}
+use Rattle.std.specs.declared.result.Result.TheVariants.{Ok, Err}
+use Prim.{tt}
 use Rattle.counting.proofs.Cases.{below_or_not}
 use Rattle.table.proofs.Records.{faces_at, live_says}
 use Rattle.audit.proofs.Valid.{valid_is_sound, valid_is_sized}
@@ -43,25 +44,25 @@ module _ (t : List ℕ) (a b : ℕ) (d : dim t a ≡ dim t b) where
       (below_or_not j (used (dim t a)))
 
 module _ (t : List ℕ) (a b : ℕ) (v : Valid t) (x : Live t a) (y : Live t b) (n : a ≡ b → ⊥) (d : dim t a ≡ dim t b) where
-  only_faces : merge_verdict t a b ≡ pick (not (same_faces t a b)) (Refused FacesDiffer) Accepted
+  only_faces : merge_verdict t a b ≡ pick (not (same_faces t a b)) (Err FacesDiffer) (Ok tt)
   unfolding merge_verdict
   only_faces =
       simp (valid_is_sized t v, valid_is_sound t v, live_says t a x, live_says t b y, ne_eqb a b n, eq-eqb (dim t a) (dim t b) d)
 
-  decided : (s : Bool) → same_faces t a b ≡ s → merge_verdict t a b ≡ pick (not s) (Refused FacesDiffer) Accepted
-  decided s e = only_faces ∙ ap (λ s. pick (not s) (Refused FacesDiffer) Accepted) e
+  decided : (s : Bool) → same_faces t a b ≡ s → merge_verdict t a b ≡ pick (not s) (Err FacesDiffer) (Ok tt)
+  decided s e = only_faces ∙ ap (λ s. pick (not s) (Err FacesDiffer) (Ok tt)) e
 
-  pub equal_lists_accepted : face_list t a ≡ face_list t b → merge_verdict t a b ≡ Accepted
+  pub equal_lists_accepted : face_list t a ≡ face_list t b → merge_verdict t a b ≡ Ok tt
   equal_lists_accepted e = decided true (same_faces_says t a b (lists_give_words t a b d v x y e))
 
-  different_lists_refused : (face_list t a ≡ face_list t b → ⊥) → merge_verdict t a b ≡ Refused FacesDiffer
+  different_lists_refused : (face_list t a ≡ face_list t b → ⊥) → merge_verdict t a b ≡ Err FacesDiffer
   different_lists_refused m = go (same_faces t a b) refl
     where
-      go : (s : Bool) → same_faces t a b ≡ s → merge_verdict t a b ≡ Refused FacesDiffer
+      go : (s : Bool) → same_faces t a b ≡ s → merge_verdict t a b ≡ Err FacesDiffer
       go true e = absurd (m (words_give_lists t a b d (same_faces_true t a b e)))
       go false e = decided false e
 
-  pub merge_refused_iff_faces_differ : ((r : Refusal) × (merge_verdict t a b ≡ Refused r)) ↔ (face_list t a ≡ face_list t b → ⊥)
+  pub merge_refused_iff_faces_differ : ((r : Refusal) × (merge_verdict t a b ≡ Err r)) ↔ (face_list t a ≡ face_list t b → ⊥)
   merge_refused_iff_faces_differ = (
     λ r e. let z : ◌≡◌ {A = ℕ} 0 1 = cc (r.1, equal_lists_accepted e) in omega arith,
     λ m. (FacesDiffer, different_lists_refused m),
@@ -73,5 +74,5 @@ unfolding face_list
 no_faces t c e = ap (λ (p : ℕ). take (used p) (faces_of t c)) e
 
 pub points_accepted :
-    (t : List ℕ) (a b : ℕ) → Valid t → Live t a → Live t b → (a ≡ b → ⊥) → dim t a ≡ 0 → dim t b ≡ 0 → merge_verdict t a b ≡ Accepted
+    (t : List ℕ) (a b : ℕ) → Valid t → Live t a → Live t b → (a ≡ b → ⊥) → dim t a ≡ 0 → dim t b ≡ 0 → merge_verdict t a b ≡ Ok tt
 points_accepted t a b v x y n p q = equal_lists_accepted t a b v x y n (p ∙ sym q) (no_faces t a p ∙ sym (no_faces t b q))

@@ -160,5 +160,13 @@ identify_both_ways : (a b c : ℕ) → identify a b c ≡ identify b a c
 unfolding identify
 identify_both_ways a b c = ap₂ (λ x y. pick (eqb c x) y c) (max_comm a b) (min_comm a b)
 
+-- and it is the smaller of the two and the larger that count
+pub identify_in_order : (a b l h : ℕ) → l ≡ min a b → h ≡ max a b → (c : ℕ) → identify l h c ≡ identify a b c
+unfolding identify
+identify_in_order a b l h low high c =
+    let more : max l h ≡ max a b = omega (arith, low, high) in
+    let less : min l h ≡ min a b = omega (arith, low, high) in
+    rw (more, less)
+
 pub renamed_both_ways : (a b : ℕ) (t : List ℕ) → renamed (identify a b) t ≡ renamed (identify b a) t
 renamed_both_ways a b t = renamed_alike (identify a b) (identify b a) t (identify_both_ways a b)

@@ -11,7 +11,8 @@ use Rattle.table.specs.Kind.{faces}
 use Rattle.table.specs.Table.{dim, face, live, sized}
 use Rattle.audit.specs.Audit.{sound, grounds}
 use Rattle.calls.specs.Calls.{Ground, verdict}
-use Rattle.calls.specs.declared.Verdict.TheVariants.{Accepted}
+use Rattle.std.specs.declared.result.Result.TheVariants.{Ok}
+use Prim.{tt}
 use Rattle.table.proofs.Records.{live_true}
 use Rattle.calls.proofs.Grounds.{accepted_none_applies}
 use Rattle.audit.proofs.Valid.{sound_is_valid}
@@ -20,7 +21,7 @@ use Rattle.merge.specs.Writing.{Joinable}
 use Rattle.merge.proofs.Pairs.{same_faces_true}
 
 -- where the audit and the pair are no ground for a refusal, the cells may be joined
-pub joinable_accepted : (t : List ℕ) (a b : ℕ) (own : List Ground) → verdict (grounds t (pair_grounds t a b ++ own)) ≡ Accepted → Joinable t a b
+pub joinable_accepted : (t : List ℕ) (a b : ℕ) (own : List Ground) → verdict (grounds t (pair_grounds t a b ++ own)) ≡ Ok tt → Joinable t a b
 joinable_accepted t a b own e =
     let k = accepted_none_applies (grounds t (pair_grounds t a b ++ own)) e in
     let both : (live t a && live t b) ≡ true = not-false (live t a && live t b) k.1.1.0 in
@@ -36,7 +37,7 @@ pub record Mergeable (t : List ℕ) (a b : ℕ) : Type 0 where
   pub pair : Joinable t a b
   pub same_faces_lem : (j : ℕ) → j < faces → face t a j ≡ face t b j
 
-pub merge_accepted : (t : List ℕ) (a b : ℕ) → merge_verdict t a b ≡ Accepted → Mergeable t a b
+pub merge_accepted : (t : List ℕ) (a b : ℕ) → merge_verdict t a b ≡ Ok tt → Mergeable t a b
 unfolding merge_verdict
 merge_accepted t a b e =
     let k = accepted_none_applies (merge_grounds t a b) e in

@@ -8,8 +8,8 @@ use Rattle.counting.specs.Counting.{all}
 use Rattle.audit.specs.Audit.{grounds}
 use Rattle.calls.specs.Calls.{Ground, verdict, named, leaves}
 use Rattle.calls.specs.declared.Refusal.TheVariants.{NotLive, SameCell, DimensionsDiffer, FacesDiffer}
-use Rattle.calls.specs.declared.Verdict.{Verdict}
-use Rattle.calls.specs.declared.Named.{Named}
+use Rattle.calls.specs.Calls.{Verdict}
+use Rattle.calls.specs.Calls.{Named}
 use Rattle.merge.specs.Rename.{renamed, identify}
 
 -- The published rule: the smaller number is kept, the other record becomes free, and every face that named the larger names the

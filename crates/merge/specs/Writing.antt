@@ -33,11 +33,3 @@ pub record Begun (kept gone : ℕ) (t u : List ℕ) (c : ℕ) : Type 0 where
   pub valid : Valid t
   pub size : length u ≡ length t
   pub done : u ≡ partly kept gone t c
-
--- some pass stands before record c
-abbrev pub Started : ℕ → ℕ → List ℕ → ℕ → Type 0
-Started kept gone u c = (t : List ℕ) × Begun kept gone t u c
-
--- every pass that stands before record c in u stands before record e in u'
-abbrev pub GoesOn : ℕ → ℕ → List ℕ → ℕ → List ℕ → ℕ → Type 0
-GoesOn kept gone u c u' e = (t : List ℕ) → Begun kept gone t u c → Begun kept gone t u' e

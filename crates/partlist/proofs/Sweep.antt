@@ -61,13 +61,6 @@ module _ (n : ℕ) (ls cs : List (List ℕ)) where
   gathered_most g =
       sorted_within Earlier compared_cells cells_tell (cell_list n ls) cs g.sorted (list_sorted n ls) (λ τ m. cells_are_entries n ls τ (g.cells τ m))
 
-  -- at the start no entry is swept
-  pub sweep_start : Gathered n ls cs → Swept n ls cs (length cs)
-  sweep_start g = record { gathered = g; inside = omega arith; closed = λ d h l. absurd (omega arith) }
-
-  pub sweep_entry : (c : ℕ) → Swept n ls cs (suc c) → Sweeping n ls cs c 0
-  sweep_entry c s = record { swept = s; facets = λ i h. absurd (omega arith) }
-
   -- the facet is there already
   pub sweep_found : (c j : ℕ) → Sweeping n ls cs c j → In (without j (corners_at cs c)) cs → Sweeping n ls cs c (suc j)
   sweep_found c j s m = record { swept = s.swept; facets = λ i h. go i h (same_or_not i j) }

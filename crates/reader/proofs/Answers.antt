@@ -11,41 +11,49 @@ use lib.Dec.{eqb, leb}
 use Rattle.counting.specs.Counting.{pick}
 use Rattle.table.specs.Kind.{capacity, width, free_mark}
 use Rattle.table.specs.Table.{cells_of, sized, on_length}
-use Rattle.audit.specs.Audit.{first_breach, breach_in, sound, on_validity, audit_grounds}
+use Rattle.audit.specs.Audit.{first_breach, breach_in, sound, audit_grounds}
 use Rattle.calls.specs.Calls.{Ground, verdict, on_verdict, Ends}
 use Rattle.calls.specs.Numbers.{number_of}
 use Rattle.calls.specs.declared.Refusal.{Refusal}
 use Rattle.calls.specs.declared.Breach.{Breach}
-use Rattle.calls.specs.declared.Refusal.TheVariants.{Length, Invalid, BadContents, BadNumber}
-use Rattle.calls.specs.declared.Verdict.{Verdict}
-use Rattle.calls.specs.declared.Verdict.TheVariants.{Accepted, Refused}
+use Rattle.calls.specs.declared.Refusal.TheVariants.{Invalid, BadContents, BadNumber}
+use Rattle.calls.specs.Calls.{Verdict}
+use Rattle.std.specs.declared.result.Result.TheVariants.{Ok, Err}
+use Prim.{tt}
 use Rattle.audit.specs.Empty.{empty_verdict, emptied, empty_leaves}
+use Rattle.audit.proofs.Empties.{length_refused}
 use Rattle.calls.proofs.Grounds.{accepted_none_applies}
 use Rattle.table.proofs.Sizes.{sized_is_sized, sized_says}
 use Rattle.sketch.specs.Read.{contents_fit, numbers_fit, described, read_verdict, read_leaves}
 use Rattle.sketch.proofs.Described.{described_sized}
+use Rattle.std.specs.Prelude.{OnOk}
+use Rattle.reader.specs.Taking.{filled_grounds}
 
 -- the grounds after the length, for a table of n cells
 abbrev pub file_grounds : ℕ → List ℕ → List Ground
-file_grounds n f =
-    record { refusal = BadContents; applies = not (contents_fit n f) }
-    ∷ record { refusal = BadNumber; applies = not (numbers_fit n f) }
-    ∷ on_validity (described n f)
-    ∷ []
+file_grounds n f = record { refusal = BadContents; applies = not (contents_fit n f) } ∷ filled_grounds n f
 
 -- what a table of n cells says to a file
 module _ (n : ℕ) (f : List ℕ) where
-  pub says_contents : false ≡ contents_fit n f → Refused BadContents ≡ verdict (file_grounds n f)
+  pub says_contents : false ≡ contents_fit n f → Err BadContents ≡ verdict (file_grounds n f)
   says_contents a = rw (sym a)
 
-  pub says_number : true ≡ contents_fit n f → false ≡ numbers_fit n f → Refused BadNumber ≡ verdict (file_grounds n f)
-  says_number a b = rw (sym a, sym b)
+  pub says_more : true ≡ contents_fit n f → verdict (filled_grounds n f) ≡ verdict (file_grounds n f)
+  says_more a = rw (sym a)
+
+  pub says_number : numbers_fit n f ≡ false → Err BadNumber ≡ verdict (filled_grounds n f)
+  says_number b = rw b
 
   -- a described table has a table's length, so the audit decides the last ground
   pub says_audit :
-      (u : List ℕ) → 1 ≤ n → n ≤ capacity → true ≡ contents_fit n f → true ≡ numbers_fit n f → u ≡ described n f →
-      verdict (audit_grounds u) ≡ verdict (file_grounds n f)
-  says_audit u h l a b e = rw (e, sym a, sym b, sized_says (described n f) (described_sized n f h l))
+      (u : List ℕ) → 1 ≤ n → n ≤ capacity → true ≡ numbers_fit n f → u ≡ described n f →
+      verdict (audit_grounds u) ≡ verdict (filled_grounds n f)
+  says_audit u h l b e = rw (e, sym b, sized_says (described n f) (described_sized n f h l))
+
+-- what holds whatever a call answers
+pub on_ok : {P : Type 0} (v : Verdict) → P → OnOk v P
+on_ok (Ok _) p = p
+on_ok (Err r) p = tt
 
 -- words of the same number are both of a table's length or both not
 sized_by_length : (t u : List ℕ) → length u ≡ length t → sized u ≡ sized t
@@ -59,7 +67,7 @@ empties t s = rw s
 
 -- after the length no ground has the number 1
 abbrev said : Bool → Bool → Bool → Breach → Verdict
-said a b c w = pick a (Refused BadContents) (pick b (Refused BadNumber) (pick c (Refused (Invalid w)) Accepted))
+said a b c w = pick a (Err BadContents) (pick b (Err BadNumber) (pick c (Err (Invalid w)) (Ok tt)))
 
 not_kept :
     (a b c : Bool) (w : Breach) (x y z : List ℕ) →
@@ -70,23 +78,19 @@ not_kept false false true w x y z = refl
 not_kept false false false w x y z = refl
 
 -- where emptying refuses, the length is no table's, so the reader refuses alike and no word changes
-length_refused : (b : Bool) (r : Refusal) → pick (not b) (Refused Length) Accepted ≡ Refused r → (b ≡ false) × (r ≡ Length)
-length_refused false r e = (refl, cc)
-length_refused true r e = absurd (let z : ◌≡◌ {A = ℕ} 0 1 = cc in omega arith)
-
 pub ends_length :
-    (t f u : List ℕ) (r : Refusal) → empty_verdict t ≡ Refused r → u ≡ empty_leaves t → Ends (read_verdict t f) (read_leaves t f) (Refused r) u
+    (t f u : List ℕ) (r : Refusal) → empty_verdict t ≡ Err r → u ≡ empty_leaves t → Ends (read_verdict t f) (read_leaves t f) (Err r) u
 unfolding read_verdict
 ends_length t f u r e a =
     let k = length_refused (sized t) r e in
-    record { answer = ap Refused k.1 ∙ simp k.0; left = a ∙ simp k.0 }
+    record { answer = ap Err k.1 ∙ simp k.0; left = a ∙ simp k.0 }
 
 -- else the length is that of a table of n cells
 pub record OfCells (t : List ℕ) (n : ℕ) : Type 0 where
   pub size : sized t ≡ true
   pub cells : n ≡ cells_of t
 
-pub of_cells : (t u : List ℕ) (n : ℕ) → empty_verdict t ≡ Accepted → length u ≡ length t → n ≡ cells_of u → OfCells t n
+pub of_cells : (t u : List ℕ) (n : ℕ) → empty_verdict t ≡ Ok tt → length u ≡ length t → n ≡ cells_of u → OfCells t n
 of_cells t u n e l h =
     record {
       size = not-false (sized t) (accepted_none_applies (on_length t ∷ []) e).0;

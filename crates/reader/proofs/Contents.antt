@@ -3,12 +3,15 @@
 use mathlib.Core.Path.{◌≡◌, refl, ap, ap₂, sym, ◌∙◌}
 use mathlib.Core.Bool.{true, false}
 use mathlib.Core.List.{List}
+use mathlib.Core.Logic.{⊎_elim}
 use Prim.Native.Nat.{ℕ, ◌+◌, ◌*◌, ◌≤◌, ◌<◌}
 use native.Mathlib.Nat.{add-mul, add_assoc, mul-le-mul_left, mul-le-mul_right}
 use native.Mathlib.Omega.{arith}
+use borrow.Author.Tests.{eq-eqb, ne_eqb}
 use lib.ListN.{length}
+use lib.Dec.{eqb}
 use Rattle.table.specs.Kind.{top, dimensions}
-use Rattle.counting.proofs.Cases.{not_true_false}
+use Rattle.counting.proofs.Cases.{not_true_false, same_or_not}
 use Rattle.sketch.specs.Form.{two_at, four_at, contents_size, offset_place, record_size, body_start}
 use Rattle.sketch.specs.Read.{count_in, record_in, contents_fit}
 use Rattle.sketch.proofs.Fits.{Fits, contents_fit_lem, fit_contents}
@@ -35,24 +38,17 @@ module _ (n : ℕ) (f : List ℕ) where
   pub unfit_offset : (p v s : ℕ) → p < dimensions → v ≡ four_at f (offset_place p) → s ≡ body_start (count_in f) p → (v ≡ s → ⊥) → false ≡ contents_fit n f
   unfit_offset p v s l e i h = unfit (λ w. h (e ∙ w.offset p l ∙ sym i))
 
-  pub unfit_length : (p s : ℕ) → p ≤ dimensions → dimensions ≤ p → s ≡ body_start (count_in f) p → (s ≡ length f → ⊥) → false ≡ contents_fit n f
-  unfit_length p s l m i h =
-      let z : p ≡ dimensions = omega arith in
-      unfit (λ w. h (i ∙ ap (body_start (count_in f)) z ∙ sym w.size))
-
-  pub fit_all :
-      (p s : ℕ) → p ≤ dimensions → dimensions ≤ p → contents_size ≤ length f → two_at f 0 ≡ n →
-      ((q : ℕ) → q < p → four_at f (offset_place q) ≡ body_start (count_in f) q) → s ≡ body_start (count_in f) p → s ≡ length f →
-      true ≡ contents_fit n f
-  fit_all p s l m long e o i z =
-      let y : p ≡ dimensions = omega arith in
-      sym (fit_contents n f
-      (record {
-        long = long;
-        start = e;
-        offset = λ q h. o q (omega arith);
-        size = sym z ∙ i ∙ ap (body_start (count_in f)) y;
-      }))
+  -- all of it but the length, which decides
+  pub fit_if_long :
+      (p s : ℕ) → p ≡ dimensions → contents_size ≤ length f → two_at f 0 ≡ n →
+      ((q : ℕ) → q < p → four_at f (offset_place q) ≡ body_start (count_in f) q) → s ≡ body_start (count_in f) p →
+      eqb s (length f) ≡ contents_fit n f
+  fit_if_long p s e long cells o i =
+      let z : s ≡ body_start (count_in f) dimensions = i ∙ ap (body_start (count_in f)) e in
+      ⊎_elim
+      (λ y. eq-eqb s (length f) y ∙ sym (fit_contents n f (record { long = long; start = cells; offset = λ q h. o q (omega arith); size = sym y ∙ z })))
+      (λ ne. ne_eqb s (length f) ne ∙ unfit (λ w. ne (z ∙ sym w.size)))
+      (same_or_not s (length f))
 
 module _ (f : List ℕ) where
   -- the start of the next body

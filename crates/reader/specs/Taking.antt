@@ -1,11 +1,14 @@
 -- What the reader has taken in on its way through the bodies. The call's own contract does not need these; the contracts of its parts do.
 -- A reader need not believe this file: proofs/ ties it to the definitions of the sketch file.
-use Rattle.std.specs.Prelude.{◌≡◌, Bool, false, List, ◌⊎◌, ℕ, ◌+◌, ◌*◌, ◌<◌, length, get_or, ltb}
+use Rattle.std.specs.Prelude.{◌≡◌, false, not, List, [], ◌∷◌, ◌⊎◌, ℕ, ◌+◌, ◌*◌, ◌<◌, length, get_or, ltb}
 use Rattle.counting.specs.Counting.{pick}
 use Rattle.table.specs.Kind.{faces, width, free_mark, used}
 use Rattle.table.specs.Records.{Record, record_at, free_record, Alike}
+use Rattle.calls.specs.Calls.{Verdict, Ground, on_verdict}
+use Rattle.calls.specs.declared.Refusal.TheVariants.{BadNumber}
+use Rattle.audit.specs.Audit.{on_validity}
 use Rattle.sketch.specs.Form.{two_at, face_place}
-use Rattle.sketch.specs.Read.{count_in, record_in, number_in, in_body, numbers_fit}
+use Rattle.sketch.specs.Read.{count_in, record_in, number_in, in_body, numbers_fit, described}
 
 -- the face words of the cell of u faces whose record stands at this place: those that it does not use are free
 unfoldable pub faces_at : List ℕ → ℕ → ℕ → ℕ → ℕ
@@ -42,5 +45,9 @@ pub record Taken (n : ℕ) (f t : List ℕ) (p i : ℕ) : Type 0 where
   pub order : (q k : ℕ) → Earlier f p i q k → InOrder n f q k
 
 -- whether body p was taken in: if not, a number of the file is not in order
-abbrev pub BodyTaken : ℕ → List ℕ → ℕ → Bool → List ℕ → Type 0
-BodyTaken n f p r t = pick r (Taken n f t (p + 1) 0) (numbers_fit n f ≡ false)
+abbrev pub BodyTaken : ℕ → List ℕ → ℕ → Verdict → List ℕ → Type 0
+BodyTaken n f p v t = on_verdict v (Taken n f t (p + 1) 0) (λ r. (r ≡ BadNumber) × (numbers_fit n f ≡ false))
+
+-- the grounds on which a table of n cells is refused, once the contents fit
+abbrev pub filled_grounds : ℕ → List ℕ → List Ground
+filled_grounds n f = record { refusal = BadNumber; applies = not (numbers_fit n f) } ∷ on_validity (described n f) ∷ []

@@ -111,11 +111,8 @@ module _ (t : List ℕ) (c : ℕ) (z : ℤ) (y₀ : List ℤ) where
     put_long y' e = ap length e ∙ length-set y f (get_or y f (pos 0) +ℤ turned m z) ∙ long
 
     -- and then it is
-    pub place_done : (y' : List ℤ) → y' ≡ put y f m z → (length y' ≡ length y₀) × ((u : ℕ) → u < length y' → get_or y' u (pos 0) ≡ added t c z y₀ (m + 1) u)
-    place_done y' e = (
-      put_long y' e,
-      λ u l. ap (λ (w : List ℤ). get_or w u (pos 0)) e ∙ place_puts u (omega (arith, put_long y' e)),
-    )
+    pub place_done : (y' : List ℤ) → y' ≡ put y f m z → (u : ℕ) → u < length y' → get_or y' u (pos 0) ≡ added t c z y₀ (m + 1) u
+    place_done y' e u l = ap (λ (w : List ℤ). get_or w u (pos 0)) e ∙ place_puts u (omega (arith, put_long y' e))
 
 -- the coefficient comes back from its register as it was
 pub adding_back : {t : List ℕ} {c k : ℕ} {x : ℤ} {y₀ : List ℤ} → SFits w64 x → Adding t c k x y₀ → Adding t c k (back x) y₀

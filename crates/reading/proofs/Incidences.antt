@@ -8,14 +8,16 @@ use mathlib.Core.Logic.{◌⊎◌, inl, inr}
 use Prim.Native.Nat.{ℕ, zero, suc, ◌+◌, ◌-◌, ◌*◌, ◌/◌, ◌%◌, ◌≤◌, ◌<◌}
 use native.Mathlib.Omega.{arith}
 use borrow.Author.Tests.{eq-eqb, ne_eqb, le-ltb, ltb-true}
+use lib.ListN.{length, get_or, take}
 use lib.IntN.{ℤ, pos, negsuc, neg_ℤ, sub_ℕ, nat_abs, ◌+ℤ◌, ◌-ℤ◌, +ℤ_idr, +ℤ_assoc, neg_ℤ-+ℤ}
 use lib.Signed.{◌≤ℤ◌, le_z, le_z_yes}
 use lib.Dec.{T, eqb, ltb, le→leb}
 use mir.Syntax.{w64}
 use mir.Val.{SFits}
 use Rattle.counting.specs.Counting.{pick}
+use Rattle.table.proofs.Slices.{taken, face_taken}
 use Rattle.table.specs.Kind.{faces, used}
-use Rattle.table.specs.Table.{dim, face}
+use Rattle.table.specs.Table.{dim, face, faces_of}
 use Rattle.counting.proofs.Cases.{same_or_not}
 use Rattle.table.proofs.Places.{used_fits}
 use Rattle.reading.specs.Sums.{sum_to, sign}
@@ -38,6 +40,15 @@ sign_size false c = omega arith
 size_sign : (t : List ℕ) (s u j : ℕ) → nat_abs (place_sign t s u j) ≤ 1
 unfolding sign
 size_sign t s u j = sign_size (eqb (face t s j) u) (eqb (j % 2) 0)
+
+-- the faces of cell s, read where its record uses them
+module _ (t : List ℕ) (s : ℕ) {fs : List ℕ} (by_value : fs ≡ faces_of t s) {m : ℕ} (few : m ≤ faces) where
+  module _ {j : ℕ} (l : j < length (take m fs)) where
+    pub few_taken : j < faces
+    few_taken = omega (arith, taken t s by_value few)
+
+    pub face_here : get_or (take m fs) j 0 ≡ face t s j
+    face_here = face_taken t s by_value few (omega (arith, taken t s by_value few))
 
 -- one place more, at which f stands, with the sum z so far
 module _ (t : List ℕ) (s u : ℕ) (z : ℤ) (j f : ℕ) (few : j < faces) (at : f ≡ face t s j) (so_far : z ≡ sum_to j (place_sign t s u)) where

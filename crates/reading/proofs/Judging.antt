@@ -13,8 +13,9 @@ use Rattle.audit.specs.Audit.{sound, on_validity, audit_grounds}
 use Rattle.calls.specs.Calls.{verdict, Ends}
 use Rattle.calls.specs.declared.Refusal.{Refusal}
 use Rattle.calls.specs.declared.Refusal.TheVariants.{Length, NoSuchPlace, TooLarge, Misplaced}
-use Rattle.calls.specs.declared.Verdict.{Verdict}
-use Rattle.calls.specs.declared.Verdict.TheVariants.{Accepted, Refused}
+use Rattle.calls.specs.Calls.{Verdict}
+use Rattle.std.specs.declared.result.Result.TheVariants.{Ok, Err}
+use Prim.{tt}
 use Rattle.audit.proofs.Valid.{sound_is_valid}
 use Rattle.calls.proofs.Grounds.{accepted_none_applies, refused_first, accepted_first}
 use Rattle.reading.specs.Sums.{integers}
@@ -24,25 +25,25 @@ use Rattle.reading.proofs.Lengths.{Fitting, lengths_say}
 
 -- the three grounds of a chain with a coefficient for each cell
 module _ (t : List ℕ) (x : List ℤ) (p : ℕ) where
-  pub dimension_above : top < p → Refused NoSuchPlace ≡ chain_verdict t x p
+  pub dimension_above : top < p → Err NoSuchPlace ≡ chain_verdict t x p
   unfolding chain_verdict
   dimension_above h = rw (lt-ltb top p h)
 
   module _ (long : length x ≡ cells_of t) (h : p ≤ top) where
-    pub too_large : all_small (length x) x ≡ false → Refused TooLarge ≡ chain_verdict t x p
+    pub too_large : all_small (length x) x ≡ false → Err TooLarge ≡ chain_verdict t x p
     unfolding chain_verdict
     too_large e = rw (le-ltb top p h, rw long at e)
 
-    pub misplaced : all_small (length x) x ≡ true → all_placed t x p ≡ false → Refused Misplaced ≡ chain_verdict t x p
+    pub misplaced : all_small (length x) x ≡ true → all_placed t x p ≡ false → Err Misplaced ≡ chain_verdict t x p
     unfolding chain_verdict
     misplaced e f = rw (le-ltb top p h, rw long at e, f)
 
-    pub chain_passes : all_small (length x) x ≡ true → all_placed t x p ≡ true → Accepted ≡ chain_verdict t x p
+    pub chain_passes : all_small (length x) x ≡ true → all_placed t x p ≡ true → (Ok tt) ≡ chain_verdict t x p
     unfolding chain_verdict
     chain_passes e f = rw (le-ltb top p h, rw long at e, f)
 
 module _ (t : List ℕ) (x : List ℤ) (p : ℕ) (y : List ℤ) where
-  pub lengths_refused : (sized t && lengths_fit t x y) ≡ false → Refused Length ≡ boundary_verdict t x p y
+  pub lengths_refused : (sized t && lengths_fit t x y) ≡ false → Err Length ≡ boundary_verdict t x p y
   unfolding boundary_verdict
   lengths_refused e = rw e
 
@@ -55,10 +56,10 @@ module _ (t : List ℕ) (x : List ℤ) (p : ℕ) (y : List ℤ) where
     audit_is : a ≡ verdict (on_validity t ∷ [])
     audit_is = says ∙ rw (lengths_say t x y fit).table
 
-    pub audit_refused : (r : Refusal) → a ≡ Refused r → Refused r ≡ boundary_verdict t x p y
+    pub audit_refused : (r : Refusal) → a ≡ Err r → Err r ≡ boundary_verdict t x p y
     audit_refused r e = sym (after_lengths ∙ refused_first (on_validity t ∷ []) (chain_grounds t x p) r (sym audit_is ∙ e))
 
-    pub audit_passed : (v : Verdict) → a ≡ Accepted → v ≡ chain_verdict t x p → v ≡ boundary_verdict t x p y
+    pub audit_passed : (v : Verdict) → a ≡ Ok tt → v ≡ chain_verdict t x p → v ≡ boundary_verdict t x p y
     unfolding chain_verdict
     audit_passed v e h = h ∙ sym (after_lengths ∙ accepted_first (on_validity t ∷ []) (chain_grounds t x p) (sym audit_is ∙ e))
 
@@ -69,7 +70,7 @@ pub record Tested (t : List ℕ) (x : List ℤ) (p : ℕ) (y : List ℤ) : Type 
   pub small : all_small (cells_of t) x ≡ true
   pub placed : all_placed t x p ≡ true
 
-pub accepted_says : (t : List ℕ) (x : List ℤ) (p : ℕ) (y : List ℤ) → boundary_verdict t x p y ≡ Accepted → Tested t x p y
+pub accepted_says : (t : List ℕ) (x : List ℤ) (p : ℕ) (y : List ℤ) → boundary_verdict t x p y ≡ Ok tt → Tested t x p y
 unfolding boundary_verdict
 accepted_says t x p y e =
     let n = accepted_none_applies (boundary_grounds t x p y) e in
@@ -82,17 +83,17 @@ accepted_says t x p y e =
     }
 
 -- what the call leaves
-pub leaves_new : (t : List ℕ) (x : List ℤ) (p : ℕ) (y : List ℤ) → boundary_verdict t x p y ≡ Accepted → boundary_leaves t x p y ≡ integers (cells_of t) (boundary_of t p (coefficient x))
+pub leaves_new : (t : List ℕ) (x : List ℤ) (p : ℕ) (y : List ℤ) → boundary_verdict t x p y ≡ Ok tt → boundary_leaves t x p y ≡ integers (cells_of t) (boundary_of t p (coefficient x))
 leaves_new t x p y e = rw e
 
-pub ends_refused : (t : List ℕ) (x : List ℤ) (p : ℕ) (y : List ℤ) (v : Verdict) (r : Refusal) → v ≡ boundary_verdict t x p y → v ≡ Refused r → Ends (boundary_verdict t x p y) (boundary_leaves t x p y) (Refused r) y
+pub ends_refused : (t : List ℕ) (x : List ℤ) (p : ℕ) (y : List ℤ) (v : Verdict) (r : Refusal) → v ≡ boundary_verdict t x p y → v ≡ Err r → Ends (boundary_verdict t x p y) (boundary_leaves t x p y) (Err r) y
 ends_refused t x p y v r e h = let q = sym e ∙ h in record { answer = sym q; left = rw q }
 
-pub ends_accepted : (t : List ℕ) (x : List ℤ) (p : ℕ) (y y' : List ℤ) (v : Verdict) → v ≡ boundary_verdict t x p y → v ≡ Accepted → y' ≡ integers (cells_of t) (boundary_of t p (coefficient x)) → Ends (boundary_verdict t x p y) (boundary_leaves t x p y) Accepted y'
+pub ends_accepted : (t : List ℕ) (x : List ℤ) (p : ℕ) (y y' : List ℤ) (v : Verdict) → v ≡ boundary_verdict t x p y → v ≡ Ok tt → y' ≡ integers (cells_of t) (boundary_of t p (coefficient x)) → Ends (boundary_verdict t x p y) (boundary_leaves t x p y) (Ok tt) y'
 ends_accepted t x p y y' v e h f = let q = sym e ∙ h in record { answer = sym q; left = f ∙ sym (leaves_new t x p y q) }
 
 -- the cells can be added into the cleared result
-pub addable : (t : List ℕ) (x : List ℤ) (p : ℕ) (y y' : List ℤ) (v : Verdict) → v ≡ boundary_verdict t x p y → v ≡ Accepted → y' ≡ integers (length y) (λ u. pos 0) → Addable t x p y'
+pub addable : (t : List ℕ) (x : List ℤ) (p : ℕ) (y y' : List ℤ) (v : Verdict) → v ≡ boundary_verdict t x p y → v ≡ Ok tt → y' ≡ integers (length y) (λ u. pos 0) → Addable t x p y'
 addable t x p y y' v e h f =
     let k = accepted_says t x p y (sym e ∙ h) in
     record {

@@ -1,10 +1,10 @@
--- The test of the three lengths, way by way out of the code, and what it says.
+-- What the test of the three lengths says.
 -- What carries it: the cases of its three parts. Assumes nothing.
 use mathlib.Core.Path.{◌≡◌}
-use mathlib.Core.Bool.{true, false, ◌&&◌}
+use mathlib.Core.Bool.{true, ◌&&◌}
 use mathlib.Core.List.{List}
 use Prim.Native.Nat.{ℕ}
-use borrow.Author.Tests.{eq-eqb, ne_eqb, eqb-true}
+use borrow.Author.Tests.{eqb-true}
 use lib.ListN.{length}
 use lib.IntN.{ℤ}
 use lib.Dec.{eqb}
@@ -28,16 +28,3 @@ module _ (t : List ℕ) (x y : List ℤ) where
         chain = eqb-true (length x) (cells_of t) (and_left (eqb (length x) (cells_of t)) (eqb (length y) (cells_of t)) both);
         target = eqb-true (length y) (cells_of t) (and_right (eqb (length x) (cells_of t)) (eqb (length y) (cells_of t)) both);
       }
-
-  -- no table; a table of n cells, and a chain that has another length; and one that has this, whose result decides
-  pub no_table : sized t ≡ false → false ≡ (sized t && lengths_fit t x y)
-  no_table e = rw e
-
-  module _ (table : sized t ≡ true) (n : ℕ) (is : n ≡ cells_of t) where
-    pub chain_differs : (length x ≡ n → ⊥) → false ≡ (sized t && lengths_fit t x y)
-    unfolding lengths_fit
-    chain_differs h = rw (table, ← is, ne_eqb (length x) n h)
-
-    pub chain_fits : length x ≡ n → eqb (length y) n ≡ (sized t && lengths_fit t x y)
-    unfolding lengths_fit
-    chain_fits h = rw (table, ← is, eq-eqb (length x) n h)

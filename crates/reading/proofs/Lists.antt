@@ -1,11 +1,10 @@
--- Laws of the list of n integers, and of the test over all numbers below n as a loop takes it.
+-- Laws of the list of n integers, and of a test over all numbers below n that one number fails.
 -- What carries them: recursion on n. Assumes nothing.
 use mathlib.Core.Path.{◌≡◌, refl, sym, ap, ◌∙◌}
-use mathlib.Core.Bool.{Bool, true, false, ◌&&◌, false≢true, and-true, and-false}
+use mathlib.Core.Bool.{Bool, false, false≢true}
 use mathlib.Core.List.{List}
-use Prim.Native.Nat.{ℕ, zero, suc, ◌+◌, ◌<◌}
+use Prim.Native.Nat.{ℕ, zero, suc, ◌<◌}
 use native.Mathlib.Nat.{not-suc-le-zero, le_of_suc-le-suc}
-use native.Mathlib.Numerals.{add-one}
 use native.Mathlib.Omega.{arith}
 use lib.ListN.{length, get_or}
 use lib.Seq.{ext_get_or}
@@ -31,21 +30,6 @@ pub is_integers : (n : ℕ) (f : ℕ → ℤ) (y : List ℤ) → length y ≡ n 
 is_integers n f y e h =
     ext_get_or (pos 0) y (integers n f) (e ∙ sym (integers_length n f))
     (λ u l. let k : u < n = omega (arith, e) in h u k ∙ sym (integers_at n f u k))
-
-pub all_zero : (f : ℕ → Bool) → all 0 f ≡ true
-unfolding all
-all_zero f = refl
-
-all_next : (f : ℕ → Bool) (n : ℕ) (b : Bool) → f n ≡ b → all (n + 1) f ≡ (all n f && b)
-unfolding all
-all_next f n b e = rw (add-one n, e)
-
--- one number more: where it passes the test stays as it is, and where it fails the test fails
-pub all_keeps : (f : ℕ → Bool) (n : ℕ) → f n ≡ true → all (n + 1) f ≡ all n f
-all_keeps f n e = all_next f n true e ∙ and-true (all n f)
-
-pub all_breaks : (f : ℕ → Bool) (n : ℕ) → f n ≡ false → all (n + 1) f ≡ false
-all_breaks f n e = all_next f n false e ∙ and-false (all n f)
 
 pub all_fails : (f : ℕ → Bool) (k n : ℕ) → k < n → f k ≡ false → all n f ≡ false
 all_fails f k n h e = not_true_false (all n f) (λ a. false≢true (sym e ∙ all_true f n a k h))

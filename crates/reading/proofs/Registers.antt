@@ -1,20 +1,16 @@
--- A signed number that passes through 64 bits comes back as it was where it fits; with it the tests of a coefficient, and the sum
--- at one place.
+-- A signed number that passes through 64 bits comes back as it was where it fits; with it the sum at one place, and the test of a
+-- coefficient against 0.
 -- What carries it: the cases of the sign. Assumes nothing.
-use mathlib.Core.Path.{◌≡◌, refl, sym, ap, subst, ◌∙◌}
-use mathlib.Core.Bool.{true, false, false≢true}
+use mathlib.Core.Path.{◌≡◌, sym, ap, ◌∙◌}
 use mathlib.Core.List.{List}
-use Prim.Native.Nat.{ℕ, suc, ◌-◌, ◌%◌}
-use native.Mathlib.Omega.{arith}
-use borrow.Author.Tests.{eq-eqb, ne_eqb, le-leb, lt-leb, ltb-true, ltb-false}
+use Prim.Native.Nat.{ℕ, ◌%◌}
+use borrow.Author.Tests.{eq-eqb, ne_eqb}
 use lib.ListN.{get_or, set}
-use lib.IntN.{ℤ, pos, negsuc, neg_ℤ, nat_abs, ◌+ℤ◌, ◌-ℤ◌}
-use lib.Signed.{lt_z, le_z}
-use lib.Dec.{leb}
+use lib.IntN.{ℤ, pos, neg_ℤ, ◌+ℤ◌, ◌-ℤ◌}
 use mir.Syntax.{w64}
 use mir.Val.{SFits, to_z, of_z}
 use mir.Facts.{to_z-of_z}
-use Rattle.reading.specs.Boundary.{limit, turned}
+use Rattle.reading.specs.Boundary.{turned}
 use Rattle.reading.specs.Steps.{put}
 
 -- z as it comes back from a register
@@ -58,27 +54,6 @@ module _ {y : List ℤ} {u j : ℕ} {x : ℤ} (s : Summing y u j x) where
       (back_is (back (get_or y u (pos 0)) -ℤ back x) (odd_fits h)
       ∙ ap (λ (z : ℤ). z -ℤ back x) (back_is (get_or y u (pos 0)) s.old)
       ∙ ap (λ (z : ℤ). get_or y u (pos 0) +ℤ z) (ap neg_ℤ (back_is x s.new) ∙ sym (turned_odd j x h)))
-
--- a coefficient against the two ends of its range
-abbrev pub lowest : ℤ
-lowest = neg_ℤ (pos limit)
-
-below_cases : (z : ℤ) → lt_z z lowest ≡ true → leb (nat_abs z) limit ≡ false
-below_cases (pos n) e = absurd (false≢true e)
-below_cases (negsuc n) e = lt-leb (suc n) limit (omega (arith, ltb-true (limit - 1) n e))
-
-inside_cases : (z : ℤ) → lt_z z lowest ≡ false → le_z z (pos limit) ≡ leb (nat_abs z) limit
-inside_cases (pos n) e = refl
-inside_cases (negsuc n) e = sym (le-leb (suc n) limit (omega (arith, ltb-false (limit - 1) n e)))
-
-module _ (z : ℤ) (f : SFits w64 z) where
-  pub too_low : lt_z (back z) lowest ≡ true → false ≡ leb (nat_abs z) limit
-  too_low e = sym (below_cases z (subst (λ (y : ℤ). lt_z y lowest ≡ true) (back_is z f) e))
-
-  pub not_low : lt_z (back z) lowest ≡ false → le_z (back z) (pos limit) ≡ leb (nat_abs z) limit
-  not_low e =
-      ap (λ (y : ℤ). le_z y (pos limit)) (back_is z f)
-      ∙ inside_cases z (subst (λ (y : ℤ). lt_z y lowest ≡ false) (back_is z f) e)
 
 -- a coefficient against 0
 pub zero_back : (z : ℤ) → SFits w64 z → of_z w64 z ≡ 0 → z ≡ pos 0

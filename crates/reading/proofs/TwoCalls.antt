@@ -11,7 +11,8 @@ use lib.ListN.{length, get_or, get_or-eq_default}
 use lib.IntN.{ℤ, pos}
 use Rattle.table.specs.Table.{cells_of, is_cell}
 use Rattle.calls.specs.Calls.{Ends}
-use Rattle.calls.specs.declared.Verdict.TheVariants.{Accepted}
+use Rattle.std.specs.declared.result.Result.TheVariants.{Ok}
+use Prim.{tt}
 use Rattle.counting.proofs.Cases.{below_or_not}
 use Rattle.table.proofs.Records.{outside_dead}
 use Rattle.reading.specs.Sums.{integers}
@@ -39,7 +40,7 @@ left_chain t p x y e u =
     (below_or_not u (cells_of t))
 
 -- Accepted with p + 1, then accepted on the result with p: all 0.
-pub two_calls_give_zeros : (t : List ℕ) (p : ℕ) (x y₀ y z₀ z : List ℤ) → Ends (boundary_verdict t x (suc p) y₀) (boundary_leaves t x (suc p) y₀) Accepted y → Ends (boundary_verdict t y p z₀) (boundary_leaves t y p z₀) Accepted z → z ≡ integers (cells_of t) (λ u. pos 0)
+pub two_calls_give_zeros : (t : List ℕ) (p : ℕ) (x y₀ y z₀ z : List ℤ) → Ends (boundary_verdict t x (suc p) y₀) (boundary_leaves t x (suc p) y₀) (Ok tt) y → Ends (boundary_verdict t y p z₀) (boundary_leaves t y p z₀) (Ok tt) z → z ≡ integers (cells_of t) (λ u. pos 0)
 two_calls_give_zeros t p x y₀ y z₀ z first second =
     let v = (accepted_says t x (suc p) y₀ (sym first.answer)).valid in
     let chain = left_chain t p (coefficient x) y (first.left ∙ leaves_new t x (suc p) y₀ (sym first.answer)) in

@@ -8,7 +8,7 @@ use Rattle.table.specs.Table.{cells_of, dim, face, is_cell}
 use Rattle.audit.specs.Audit.{grounds_with}
 use Rattle.calls.specs.Calls.{Ground, verdict, on_verdict}
 use Rattle.calls.specs.declared.Refusal.TheVariants.{NoSuchPlace, TooLarge, Misplaced}
-use Rattle.calls.specs.declared.Verdict.{Verdict}
+use Rattle.calls.specs.Calls.{Verdict}
 use Rattle.reading.specs.Sums.{sum_to, sign, integers}
 use Rattle.reading.specs.Incidence.{incidence_of}
 

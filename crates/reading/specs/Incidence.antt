@@ -7,8 +7,9 @@ use Rattle.table.specs.Table.{dim, face, live}
 use Rattle.audit.specs.Audit.{grounds}
 use Rattle.calls.specs.Calls.{Ground, verdict, on_verdict}
 use Rattle.calls.specs.declared.Refusal.TheVariants.{NotLive, DimensionsDiffer}
-use Rattle.reading.specs.declared.Sum.{Sum}
-use Rattle.reading.specs.declared.Sum.TheVariants.{Is, NoSum}
+use Rattle.std.specs.declared.result.Result.{Result}
+use Rattle.calls.specs.declared.Refusal.{Refusal}
+use Rattle.std.specs.declared.result.Result.TheVariants.{Ok, Err}
 use Rattle.reading.specs.Sums.{sum_to, sign}
 
 unfoldable pub incidence_of : List ℕ → ℕ → ℕ → ℤ
@@ -24,5 +25,5 @@ cell_grounds t s u =
 abbrev pub incidence_grounds : List ℕ → ℕ → ℕ → List Ground
 incidence_grounds t s u = grounds t (cell_grounds t s u)
 
-abbrev pub incidence_answer : List ℕ → ℕ → ℕ → Sum
-incidence_answer t s u = on_verdict (verdict (incidence_grounds t s u)) (Is (incidence_of t s u)) NoSum
+abbrev pub incidence_answer : List ℕ → ℕ → ℕ → Result ℤ Refusal
+incidence_answer t s u = on_verdict (verdict (incidence_grounds t s u)) (Ok (incidence_of t s u)) Err

@@ -4,9 +4,10 @@ use Rattle.std.specs.Prelude.{◌≡◌, true, List, ℕ, ◌^◌, ◌≤◌, �
 use Rattle.table.specs.Kind.{faces}
 use Rattle.table.specs.Table.{cells_of, face, Valid}
 use Rattle.calls.specs.Calls.{verdict, on_verdict}
-use Rattle.calls.specs.declared.Verdict.{Verdict}
-use Rattle.reading.specs.declared.Sum.{Sum}
-use Rattle.reading.specs.declared.Sum.TheVariants.{Is, NoSum}
+use Rattle.calls.specs.Calls.{Verdict}
+use Rattle.std.specs.declared.result.Result.{Result}
+use Rattle.calls.specs.declared.Refusal.{Refusal}
+use Rattle.std.specs.declared.result.Result.TheVariants.{Ok, Err}
 use Rattle.reading.specs.Sums.{sum_to, integers}
 use Rattle.reading.specs.Incidence.{incidence_of, cell_grounds}
 use Rattle.reading.specs.Boundary.{turned, place_adds, limit, all_small, all_placed, chain_grounds}
@@ -41,5 +42,5 @@ unfoldable pub chain_verdict : List ℕ → List ℤ → ℕ → Verdict
 chain_verdict t x p = verdict (chain_grounds t x p)
 
 -- what the two cells decide, once the table is valid
-unfoldable pub cells_answer : List ℕ → ℕ → ℕ → Sum
-cells_answer t s u = on_verdict (verdict (cell_grounds t s u)) (Is (incidence_of t s u)) NoSum
+unfoldable pub cells_answer : List ℕ → ℕ → ℕ → Result ℤ Refusal
+cells_answer t s u = on_verdict (verdict (cell_grounds t s u)) (Ok (incidence_of t s u)) Err

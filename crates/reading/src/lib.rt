@@ -12,85 +12,36 @@ ghost use Rattle.reading.specs.Incidence.{incidence_of, incidence_answer};
 ghost use Rattle.reading.specs.Boundary.{boundary_of, boundary_verdict, boundary_leaves, limit, coefficient, lengths_fit, all_small, all_placed, turned};
 ghost use Rattle.reading.specs.Steps.{put as put_into, added, Adding, Addable, chain_verdict, cells_answer};
 
-use calls::{Refusal, Verdict};
+use calls::Refusal;
 use table::Table;
 
-// A signed incidence, or why there is none.
-#[derive(Drop)]
-pub enum Sum {
-    Is(i64),
-    NoSum(Refusal),
-}
-
 // The largest coefficient that a call takes, either sign.
-const LIMIT: i64 = 1 << 40;
+const LIMIT: u64 = 1 << 40;
 
-// The number of the code is that of the definitions.
-fn same_limit()
-    ensures { LIMIT ≡ pos limit }
-{}
-
-// Whether a coefficient lies within the limit.
-fn small(x: i64) -> bool
-    ensures { result ≡ leb (nat_abs x) limit }
-{
-    if x < -LIMIT {
-        return false;
-    }
-    x <= LIMIT
-}
-
-// Whether all coefficients do.
+// Whether all coefficients lie within the limit.
 fn coefficients_small(chain: &[i64]) -> bool
     ensures { result ≡ all_small (length chain.now) chain.now }
 {
-    for c in 0..chain.len() {
-        if !small(chain[c]) {
-            return false;
-        }
-    }
-    true
+    chain.iter().all(|x| x.unsigned_abs() <= LIMIT)
 }
 
-// Whether every coefficient that is not 0 stands at a live p-cell. The answer is gathered, and no misplaced one ends the pass: so the
-// compiler needs no branch for each coefficient.
+// Whether every coefficient that is not 0 stands at a live p-cell.
 fn coefficients_placed(t: &[u16], chain: &[i64], p: u16) -> bool
     requires { (length chain.now ≡ cells_of t.now) × (p ≤ top) }
     ensures { result ≡ all_placed t.now chain.now p }
 {
-    let mut placed = true;
-    for c in 0..chain.len() {
-        let x = chain[c];
-        if x != 0 {
-            if Table::dim(t, c) != p {
-                placed = false;
-            }
-        }
-    }
-    placed
+    chain
+        .iter()
+        .enumerate()
+        .all(|(c, x)| *x == 0 || Table::dim(t, c) == p)
 }
 
 // Whether the words are a table's, and the chain and the result have a number for each of its cells.
 fn lengths_fit(t: &[u16], chain: &[i64], res: &[i64]) -> bool
     ensures { result ≡ (sized t.now && lengths_fit t.now chain.now res.now) }
 {
-    if !Table::fits(t) {
-        return false;
-    }
     let n = Table::room(t);
-    if chain.len() != n {
-        return false;
-    }
-    res.len() == n
-}
-
-// Sets every number of the result to 0.
-fn clear(res: &mut [i64])
-    ensures { res.new ≡ integers (length res.old) (λ u. pos 0) }
-{
-    for k in 0..res.len() {
-        res[k] = 0;
-    }
+    Table::fits(t) && chain.len() == n && res.len() == n
 }
 
 // Adds x at number u where the place j is even, and takes it away where it is odd.
@@ -98,11 +49,10 @@ fn put(res: &mut [i64], u: usize, j: usize, x: i64)
     requires { (u < length res.old) × SFits w64 (get_or res.old u (pos 0) +ℤ turned j x) }
     ensures { res.new ≡ put_into res.old u j x }
 {
-    let old = res[u];
     if j % 2 == 0 {
-        res[u] = old + x;
+        res[u] += x;
     } else {
-        res[u] = old - x;
+        res[u] -= x;
     }
 }
 
@@ -123,60 +73,49 @@ fn add_cells(t: &[u16], chain: &[i64], p: u16, res: &mut [i64])
     ensures { res.new ≡ integers (cells_of t.now) (boundary_of t.now p (coefficient chain.now)) }
 {
     let used = Table::used(p);
-    for c in 0..chain.len() {
-        let x = chain[c];
-        if x != 0 {
-            add_cell(t, c, used, x, res);
+    for (c, x) in chain.iter().enumerate() {
+        if *x != 0 {
+            add_cell(t, c, used, *x, res);
         }
     }
 }
 
 // The refusal that the chain and its dimension give, in the order 12, 10, 11, or that there is none.
-fn judge_chain(t: &[u16], chain: &[i64], p: u16) -> Verdict
+fn judge_chain(t: &[u16], chain: &[i64], p: u16) -> Result<(), Refusal>
     requires { length chain.now ≡ cells_of t.now }
     ensures { result ≡ chain_verdict t.now chain.now p }
 {
     if p > Table::TOP {
-        return Verdict::Refused(Refusal::NoSuchPlace);
+        return Err(Refusal::NoSuchPlace);
     }
-    let within = coefficients_small(chain);
-    let placed = coefficients_placed(t, chain, p);
-    if !within {
-        return Verdict::Refused(Refusal::TooLarge);
+    if !coefficients_small(chain) {
+        return Err(Refusal::TooLarge);
     }
-    if !placed {
-        return Verdict::Refused(Refusal::Misplaced);
+    if !coefficients_placed(t, chain, p) {
+        return Err(Refusal::Misplaced);
     }
-    Verdict::Accepted
+    Ok(())
 }
 
 // The refusal of a boundary, in its order, or that there is none. Nothing is written.
-fn judge(t: &[u16], chain: &[i64], p: u16, res: &[i64]) -> Verdict
+fn judge(t: &[u16], chain: &[i64], p: u16, res: &[i64]) -> Result<(), Refusal>
     ensures { result ≡ boundary_verdict t.now chain.now p res.now }
 {
     if !lengths_fit(t, chain, res) {
-        return Verdict::Refused(Refusal::Length);
+        return Err(Refusal::Length);
     }
-    let found = audit::audit(t);
-    match found {
-        Verdict::Refused(r) => Verdict::Refused(r),
-        Verdict::Accepted => judge_chain(t, chain, p),
-    }
+    audit::audit(t)?;
+    judge_chain(t, chain, p)
 }
 
 // The boundary of the p-chain `chain`, into `res`. Refused with 1, 2, 12, 10, 11, in that order; then no word changes.
-pub fn boundary(t: &[u16], chain: &[i64], p: u16, res: &mut [i64]) -> Verdict
+pub fn boundary(t: &[u16], chain: &[i64], p: u16, res: &mut [i64]) -> Result<(), Refusal>
     ensures { Ends (boundary_verdict t.now chain.now p res.old) (boundary_leaves t.now chain.now p res.old) result res.new }
 {
-    let found = judge(t, chain, p, res);
-    match found {
-        Verdict::Refused(r) => Verdict::Refused(r),
-        Verdict::Accepted => {
-            clear(res);
-            add_cells(t, chain, p, res);
-            Verdict::Accepted
-        }
-    }
+    judge(t, chain, p, res)?;
+    res.fill(0);
+    add_cells(t, chain, p, res);
+    Ok(())
 }
 
 // The sum of (−1)^j over the places j at which face j of s is u.
@@ -187,8 +126,8 @@ fn places_sum(t: &[u16], s: usize, u: u16) -> i64
     let places = Table::used(Table::dim(t, s));
     let faces = Table::faces(t, s);
     let mut sum: i64 = 0;
-    for j in 0..places {
-        if faces[j] == u {
+    for (j, f) in faces[..places].iter().enumerate() {
+        if *f == u {
             if j % 2 == 0 {
                 sum += 1;
             } else {
@@ -200,30 +139,22 @@ fn places_sum(t: &[u16], s: usize, u: u16) -> i64
 }
 
 // The incidence of two cells of a valid table. Refused with 3, 5, in that order.
-fn of_cells(t: &[u16], s: u16, u: u16) -> Sum
+fn of_cells(t: &[u16], s: u16, u: u16) -> Result<i64, Refusal>
     ensures { result ≡ cells_answer t.now s u }
 {
-    if !Table::live(t, s as usize) {
-        return Sum::NoSum(Refusal::NotLive);
+    if !Table::live(t, s as usize) || !Table::live(t, u as usize) {
+        return Err(Refusal::NotLive);
     }
-    if !Table::live(t, u as usize) {
-        return Sum::NoSum(Refusal::NotLive);
+    if Table::dim(t, s as usize) != Table::dim(t, u as usize) + 1 {
+        return Err(Refusal::DimensionsDiffer);
     }
-    let p = Table::dim(t, s as usize);
-    let q = Table::dim(t, u as usize);
-    if p as usize != q as usize + 1 {
-        return Sum::NoSum(Refusal::DimensionsDiffer);
-    }
-    Sum::Is(places_sum(t, s as usize, u))
+    Ok(places_sum(t, s as usize, u))
 }
 
 // The sum of (−1)^j over the places j at which face j of s is u. Refused with 1, 2, 3, 5, in that order.
-pub fn incidence(t: &[u16], s: u16, u: u16) -> Sum
+pub fn incidence(t: &[u16], s: u16, u: u16) -> Result<i64, Refusal>
     ensures { result ≡ incidence_answer t.now s u }
 {
-    let found = audit::audit(t);
-    match found {
-        Verdict::Refused(r) => Sum::NoSum(r),
-        Verdict::Accepted => of_cells(t, s, u),
-    }
+    audit::audit(t)?;
+    of_cells(t, s, u)
 }

@@ -1,26 +1,27 @@
--- The arrays that the reducer works in: large enough for cells with rows of up to u words, and fresh.
--- What carries it: a product of two bounds. Assumes nothing.
-use mathlib.Core.Path.{◌≡◌}
+-- The arrays that the reducer works in: large enough for the cells, and fresh. Assumes nothing.
+use mathlib.Core.Path.{◌≡◌, refl}
 use mathlib.Core.List.{List}
-use Prim.Native.Nat.{ℕ, ◌*◌, ◌≤◌}
-use native.Mathlib.Nat.{mul-le-mul}
+use Prim.Native.Nat.{ℕ, zero, suc, ◌*◌, ◌≤◌}
 use native.Mathlib.Omega.{arith}
-use lib.ListN.{length, replicate, length-replicate, get_or-replicate}
+use lib.ListN.{length, replicate, length-replicate}
 use Rattle.homology.specs.Cells.{Cells}
 use Rattle.bitset.specs.Bits.{bits}
-use Rattle.table.specs.Kind.{free_mark}
 use Rattle.rows.specs.Rows.{row_width, evidence_words}
-use Rattle.reducer.specs.Work.{Roomy, Blank, Fresh}
+use Rattle.reducer.specs.Work.{owner_of, Roomy, Blank, Fresh}
+use Rattle.std.specs.Prelude.{Option, None}
 
-pub arrays_ready : (K : Cells) (ev : List ℕ) (u : ℕ) → length ev ≡ evidence_words K → Blank ev → row_width K ≤ u
-    → Roomy K ev (replicate (bits * u * u) 0) (replicate (bits * u) free_mark) × Fresh ev (replicate (bits * u) free_mark)
-arrays_ready K ev u long none narrow =
-    let rows : bits * row_width K ≤ bits * u = omega arith in
-    let area : bits * row_width K * row_width K ≤ bits * u * u = mul-le-mul rows narrow in (
-      record {
-        evidence = long;
-        boundaries = omega (arith, length-replicate {A = ℕ} (bits * u * u) 0);
-        owners = omega (arith, length-replicate {A = ℕ} (bits * u) free_mark);
-      },
-      record { no_rows = none; no_owners = λ m l. get_or-replicate (bits * u) m free_mark 0 (rw length-replicate at l) },
-    )
+none_owned : (m k : ℕ) → owner_of (replicate m None) k ≡ None
+none_owned zero k = refl
+none_owned (suc m) zero = refl
+none_owned (suc m) (suc k) = none_owned m k
+
+pub arrays_ready : (K : Cells) (ev : List ℕ) (n m : ℕ) → length ev ≡ evidence_words K → Blank ev → bits * row_width K * row_width K ≤ n → bits * row_width K ≤ m
+    → Roomy K ev (replicate n 0) (replicate m None) × Fresh ev (replicate m None)
+arrays_ready K ev n m long none room rows = (
+  record {
+    evidence = long;
+    boundaries = omega (arith, length-replicate {A = ℕ} n 0);
+    owners = omega (arith, length-replicate {A = Option ℕ} m None);
+  },
+  record { no_rows = none; no_owners = none_owned m },
+)

@@ -12,5 +12,4 @@ pub mod RowAdditions
 pub mod Counts
 pub mod Progress
 pub mod Arrays
-pub mod Zeros
 pub mod Verdicts

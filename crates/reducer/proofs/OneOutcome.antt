@@ -14,8 +14,9 @@ use Rattle.homology.proofs.Marks.{by_mark, by_order}
 use Rattle.homology.proofs.Tops.{largest_unique}
 use Rattle.bitset.specs.Bits.{sum_of}
 use Rattle.counting.specs.Counting.{pick}
-use Rattle.calls.specs.declared.Verdict.{Verdict}
-use Rattle.calls.specs.declared.Verdict.TheVariants.{Accepted, Refused}
+use Rattle.calls.specs.Calls.{Verdict}
+use Rattle.std.specs.declared.result.Result.TheVariants.{Ok, Err}
+use Prim.{tt}
 use Rattle.complex.specs.Cells.{cells}
 use Rattle.rows.specs.Rows.{row_width, evidence_words, row_of}
 use Rattle.rows.proofs.RowWords.{get_or_row_of}
@@ -124,10 +125,10 @@ one_reduction t ev a₀ l l' a a' r r' h h' = by_verdict (reduce_verdict t ev) r
     said = h.answer ∙ sym h'.answer
 
     by_verdict : (d : Verdict) → reduce_verdict t ev ≡ d → (r ≡ r') × (l ≡ l') × (a ≡ a')
-    by_verdict Accepted e =
+    by_verdict (Ok tt) e =
         let both = one_accepted (cells t) l l' a a' (h.accepted e) (h'.accepted e) in
         (said, both.1, both.0)
-    by_verdict (Refused x) e =
+    by_verdict (Err x) e =
         let mine = h.refused_left x e in
         let other = h'.refused_left x e in
         (said, mine.0 ∙ sym other.0, mine.1 ∙ sym other.1)

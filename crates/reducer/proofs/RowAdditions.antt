@@ -5,17 +5,18 @@ use mathlib.Core.Path.{◌≡◌, refl, sym, ap, ap₂, subst, ◌∙◌}
 use mathlib.Core.List.{List}
 use Prim.Native.Nat.{ℕ, suc, ◌+◌, ◌*◌, ◌^◌, ◌≤◌, ◌<◌}
 use native.Mathlib.Omega.{arith}
-use lib.ListN.{length, get_or, set, length-set}
+use lib.ListN.{length, set, length-set}
 use Rattle.homology.specs.Cells.{Cells}
 use Rattle.bitset.specs.Bits.{bits, mark, sum_of, IsLargestIn}
 use Rattle.bitset.specs.Rows.{row_at, RowAdded, RowKept}
 use Rattle.bitset.proofs.Marks.{length_sum}
 use Rattle.bitset.proofs.RowLaws.{row_before, length_row}
-use Rattle.table.specs.Kind.{capacity, free_mark}
+use Rattle.table.specs.Kind.{capacity}
 use Rattle.rows.specs.Rows.{row_width, row_of}
 use Rattle.rows.proofs.RowWords.{row_width_fits, length_row_of}
 use Rattle.reducer.specs.Rule.{Additions, stop, add, LargestOf, alone}
-use Rattle.reducer.specs.Work.{Owned, Bounds, Begun, Roomy, Finished}
+use Rattle.reducer.specs.Work.{Owners, owner_of, Owned, Bounds, Begun, Roomy, Finished}
+use Rattle.std.specs.Prelude.{None, Some}
 use Rattle.reducer.proofs.RowWords.{row_at_lem, row_room, kept_row, kept_others}
 use Rattle.reducer.proofs.LowerRows.{additions_stay}
 use Rattle.reducer.proofs.Owners.{owned_stays, owned_more, free_alone, owned_kept}
@@ -23,7 +24,7 @@ use Rattle.reducer.proofs.Heights.{height, height_inside, height_falls}
 use Rattle.reducer.proofs.Boundaries.{largest_of, of_largest, bounds_add}
 
 -- after n additions to row c, which started in ev₁, w words wide; x is its boundary
-pub record Going (K : Cells) (c w : ℕ) (ev₁ x ev kept owner : List ℕ) (n : ℕ) : Type 0 where
+pub record Going (K : Cells) (c w : ℕ) (ev₁ x ev kept : List ℕ) (owner : Owners) (n : ℕ) : Type 0 where
   pub room : K.size ≤ capacity
   pub inside : c < K.size
   pub width : w ≡ row_width K
@@ -39,7 +40,7 @@ pub record Going (K : Cells) (c w : ℕ) (ev₁ x ev kept owner : List ℕ) (n :
 less_apart : (b c : ℕ) → b < c → b ≡ c → ⊥
 less_apart b c l e = omega arith
 
-pub going_first : {K : Cells} {c w : ℕ} {x ev kept owner : List ℕ} → K.size ≤ capacity → c < K.size → w ≡ row_width K → Begun K c x ev kept owner → Going K c w ev x ev kept owner 0
+pub going_first : {K : Cells} {c w : ℕ} {x ev kept : List ℕ} {owner : Owners} → K.size ≤ capacity → c < K.size → w ≡ row_width K → Begun K c x ev kept owner → Going K c w ev x ev kept owner 0
 going_first {K} {c} {x = x} {ev} room inside e begun = record {
   room = room;
   inside = inside;
@@ -54,12 +55,12 @@ going_first {K} {c} {x = x} {ev} room inside e begun = record {
   few = omega (arith, height_inside x, begun.long);
 }
 
-module _ {K : Cells} {c w : ℕ} {ev₁ x ev kept owner : List ℕ} {n : ℕ} (so : Going K c w ev₁ x ev kept owner n) where
+module _ {K : Cells} {c w : ℕ} {ev₁ x ev kept : List ℕ} {owner : Owners} {n : ℕ} (so : Going K c w ev₁ x ev kept owner n) where
   pub largest_asks : 64 * length x ≤ 2 ^ 64
   largest_asks = omega (arith, so.long, so.width, row_width_fits K so.room)
 
   -- where the rule stops, with the boundaries and owners as they are left
-  ends : (kept' owner' : List ℕ) → length kept' ≡ length kept → length owner' ≡ length owner
+  ends : (kept' : List ℕ) (owner' : Owners) → length kept' ≡ length kept → length owner' ≡ length owner
       → ((b m : ℕ) → b < c → LargestOf K (row_of K ev c) m → LargestOf K (row_of K ev b) m → ⊥) → Owned K ev kept' owner' (suc c) → Finished K c ev₁ ev kept' owner' n
   ends kept' owner' kept-long owner-long none owned = record {
     roomy = record { evidence = so.roomy.evidence; boundaries = omega (arith, so.roomy.boundaries); owners = omega (arith, so.roomy.owners) };
@@ -93,24 +94,21 @@ module _ {K : Cells} {c w : ℕ} {ev₁ x ev kept owner : List ℕ} {n : ℕ} (s
         omega (arith, row_before w m (bits * w) (omega (arith, largest.inside, so.long)))
 
     -- it has no owner
-    pub ends_free : get_or owner m 0 ≡ free_mark → {kept' : List ℕ} → RowKept w m x kept kept' → Finished K c ev₁ ev kept' (set owner m c) n
-    ends_free free {kept'} put = ends kept' (set owner m c) put.long (length-set owner m c)
+    pub ends_free : owner_of owner m ≡ None → {kept' : List ℕ} → RowKept w m x kept kept' → Finished K c ev₁ ev kept' (set owner m (Some c)) n
+    ends_free free {kept'} put = ends kept' (set owner m (Some c)) put.long (length-set owner m (Some c))
         (free_alone so.owned so.bounds largest free)
-        (owned_kept so.owned so.bounds largest kept' place (omega (arith, so.room, so.inside)) (kept_row K so.width put) (kept_others K so.width put))
+        (owned_kept so.owned so.bounds largest kept' place (kept_row K so.width put) (kept_others K so.width put))
 
     -- it has an owner, whose row is added
-    module _ (taken : get_or owner m 0 ≡ free_mark → ⊥) where
-      abbrev a : ℕ
-      a = get_or owner m 0
-
+    module _ {a : ℕ} (taken : owner_of owner m ≡ Some a) where
       pub add_asks : (a < c) × (c * w + w ≤ length ev)
-      add_asks = (so.owned.earlier m place taken, row_room K ev c w so.width so.roomy.evidence so.inside)
+      add_asks = (so.owned.earlier m a taken, row_room K ev c w so.width so.roomy.evidence so.inside)
 
       largest_kept : IsLargestIn (row_of K kept m) m
-      largest_kept = so.owned.largest m place taken
+      largest_kept = so.owned.largest m a taken
 
       bounds_a : Bounds K (row_of K kept m) (row_of K ev a)
-      bounds_a = so.owned.bounds m place taken
+      bounds_a = so.owned.bounds m a taken
 
       kept_wide : length x ≡ length (row_of K kept m)
       kept_wide = so.long ∙ sym (ap length (row_at_lem K kept m so.width) ∙ length_row w kept m kept_room)
@@ -156,7 +154,7 @@ module _ {K : Cells} {c w : ℕ} {ev₁ x ev kept owner : List ℕ} {n : ℕ} (s
           }
 
 -- a row that is finished since it was started is finished since it was empty
-pub finished_since : {K : Cells} {c : ℕ} {ev ev₁ ev' kept' owner' : List ℕ} {n : ℕ} → ((i : ℕ) → (i ≡ c → ⊥) → row_of K ev₁ i ≡ row_of K ev i) → Finished K c ev₁ ev' kept' owner' n → Finished K c ev ev' kept' owner' n
+pub finished_since : {K : Cells} {c : ℕ} {ev ev₁ ev' kept' : List ℕ} {owner' : Owners} {n : ℕ} → ((i : ℕ) → (i ≡ c → ⊥) → row_of K ev₁ i ≡ row_of K ev i) → Finished K c ev₁ ev' kept' owner' n → Finished K c ev ev' kept' owner' n
 finished_since same done = record {
   roomy = done.roomy;
   row = done.row;

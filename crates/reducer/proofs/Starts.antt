@@ -21,7 +21,7 @@ use Rattle.rows.proofs.Members.{member_cong, member_toggled, member_zeros, membe
 use Rattle.rows.proofs.Boundaries.{boundary_with_one, boundary_of_empty}
 use Rattle.rows.proofs.RowWords.{row_width_fits}
 use Rattle.reducer.specs.Rule.{stop, LargestOf, alone, empty_row}
-use Rattle.reducer.specs.Work.{Owned, Roomy, Ready, Begun, Finished}
+use Rattle.reducer.specs.Work.{Owners, Owned, Roomy, Ready, Begun, Finished}
 use Rattle.reducer.proofs.RowWords.{row_at_lem, kept_row, kept_others}
 use Rattle.reducer.proofs.Owners.{owned_stays, owned_more}
 
@@ -55,7 +55,7 @@ module _ {K : Cells} {c : ℕ} (room : K.size ≤ capacity) (lawful : Lawful K) 
   alone_point : K.dim c ≡ 0 → (m : ℕ) → LargestOf K (alone K c) m → ⊥
   alone_point level m g = omega (arith, (lawful.faces c m (sym (alone_bound m) ∙ g.member)).one_down)
 
-  module _ {w : ℕ} {ev ev₁ kept owner : List ℕ} (e : w ≡ row_width K) (ready : Ready K c ev kept owner) (put : RowStarted w c ev ev₁) where
+  module _ {w : ℕ} {ev ev₁ kept : List ℕ} {owner : Owners} (e : w ≡ row_width K) (ready : Ready K c ev kept owner) (put : RowStarted w c ev ev₁) where
     row : row_of K ev₁ c ≡ alone K c
     unfolding alone
     row = kept_row K e put ∙ ap (λ (x : List ℕ). toggled x c) (sym (row_at_lem K ev c e) ∙ ready.empty)

@@ -14,7 +14,8 @@ use Rattle.table.specs.Table.{Valid, sized}
 use Rattle.calls.specs.Calls.{verdict}
 use Rattle.calls.specs.declared.Refusal.{Refusal}
 use Rattle.calls.specs.declared.Refusal.TheVariants.{Length}
-use Rattle.calls.specs.declared.Verdict.TheVariants.{Accepted, Refused}
+use Rattle.std.specs.declared.result.Result.TheVariants.{Ok, Err}
+use Prim.{tt}
 use Rattle.calls.proofs.Grounds.{accepted_none_applies, none_applies_accepted}
 use Rattle.audit.specs.Audit.{sound, audit_grounds}
 use Rattle.audit.proofs.Valid.{sound_is_valid, valid_is_sound, valid_is_sized}
@@ -25,7 +26,7 @@ use Rattle.rows.proofs.Lengths.{fitting_length}
 use Rattle.reducer.specs.Reduce.{reduce_grounds, reduce_verdict, Reduces, Reduction}
 
 module _ (t ev : List ℕ) where
-  pub refuses_length : lengths_fit t ev ≡ false → Refused Length ≡ reduce_verdict t ev
+  pub refuses_length : lengths_fit t ev ≡ false → Err Length ≡ reduce_verdict t ev
   unfolding reduce_verdict
   refuses_length e = simp e
 
@@ -34,13 +35,13 @@ module _ (t ev : List ℕ) where
   as_audited e = simp (and_left (sized t) (evidence_fits t ev) e, and_right (sized t) (evidence_fits t ev) e)
 
   -- a valid table, with evidence of the length for it, is accepted
-  pub reducer_accepts : Valid t → length ev ≡ evidence_words (cells t) → reduce_verdict t ev ≡ Accepted
+  pub reducer_accepts : Valid t → length ev ≡ evidence_words (cells t) → reduce_verdict t ev ≡ Ok tt
   unfolding reduce_verdict
   reducer_accepts v e = none_applies_accepted (reduce_grounds t ev)
       (ap not (and_both (sized t) (evidence_fits t ev) (valid_is_sized t v) (eq-eqb (length ev) (evidence_words (cells t)) e)), (ap not (valid_is_sound t v), tt))
 
   -- acceptance
-  module _ (yes : reduce_verdict t ev ≡ Accepted) where
+  module _ (yes : reduce_verdict t ev ≡ Ok tt) where
     both_on : (lengths_fit t ev ≡ true) × (sound t ≡ true)
     unfolding reduce_verdict
     both_on =
@@ -53,14 +54,14 @@ module _ (t ev : List ℕ) where
     pub accepted_long : length ev ≡ evidence_words (cells t)
     accepted_long = fitting_length t ev both_on.0
 
-    pub accepted_ends : (a₀ ev' a : List ℕ) → Reduction (cells t) ev' a → Reduces t ev a₀ Accepted ev' a
+    pub accepted_ends : (a₀ ev' a : List ℕ) → Reduction (cells t) ev' a → Reduces t ev a₀ (Ok tt) ev' a
     accepted_ends a₀ ev' a done = record {
       answer = sym yes;
       refused_left = λ x h. let z : ◌≡◌ {A = ℕ} 0 1 = cc in absurd (omega arith);
       accepted = λ h. done;
     }
 
-  pub refused_ends : (x : Refusal) (a : List ℕ) → reduce_verdict t ev ≡ Refused x → Reduces t ev a (Refused x) ev a
+  pub refused_ends : (x : Refusal) (a : List ℕ) → reduce_verdict t ev ≡ Err x → Reduces t ev a (Err x) ev a
   refused_ends x a why = record {
     answer = sym why;
     refused_left = λ y h. (refl, refl);

@@ -6,8 +6,9 @@ use Rattle.homology.specs.Cells.{Cells}
 use Rattle.table.specs.Kind.{dimensions}
 use Rattle.calls.specs.Calls.{Ground, verdict}
 use Rattle.calls.specs.declared.Refusal.{Refusal}
-use Rattle.calls.specs.declared.Verdict.{Verdict}
-use Rattle.calls.specs.declared.Verdict.TheVariants.{Accepted, Refused}
+use Rattle.calls.specs.Calls.{Verdict}
+use Rattle.std.specs.declared.result.Result.TheVariants.{Ok, Err}
+use Prim.{tt}
 use Rattle.audit.specs.Audit.{grounds_with}
 use Rattle.complex.specs.Cells.{cells}
 use Rattle.rows.specs.Lengths.{evidence_fits}
@@ -32,5 +33,5 @@ pub record Reduction (K : Cells) (ev' : List ℕ) (additions : List ℕ) : Type 
 
 pub record Reduces (t ev additions₀ : List ℕ) (r : Verdict) (ev' additions : List ℕ) : Type 0 where
   pub answer : r ≡ reduce_verdict t ev
-  pub refused_left : (x : Refusal) → reduce_verdict t ev ≡ Refused x → (ev' ≡ ev) × (additions ≡ additions₀)
-  pub accepted : reduce_verdict t ev ≡ Accepted → Reduction (cells t) ev' additions
+  pub refused_left : (x : Refusal) → reduce_verdict t ev ≡ Err x → (ev' ≡ ev) × (additions ≡ additions₀)
+  pub accepted : reduce_verdict t ev ≡ Ok tt → Reduction (cells t) ev' additions

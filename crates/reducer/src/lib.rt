@@ -2,16 +2,16 @@
 // of the row; taking boundaries anew for each addition would cost two orders of magnitude on the worst table. It asks no heap.
 #![tactic(auto)]
 
-ghost use Rattle.std.specs.Prelude.{◌≡◌, true, ◌≤◌, ◌<◌, length};
-ghost use Rattle.complex.specs.View.{view_of, Frame};
-ghost use Rattle.complex.specs.Cells.{cells};
+ghost use Rattle.std.specs.Prelude.{◌≡◌, true, ◌*◌, ◌≤◌, ◌<◌, length};
+ghost use Rattle.table.specs.Kind.{capacity};
+ghost use Rattle.bitset.specs.Bits.{bits, full_width};
 ghost use Rattle.rows.specs.Rows.{row_width, evidence_words};
+ghost use Rattle.rows.specs.Seen.{cells_of};
 ghost use Rattle.reducer.specs.Reduce.{Reduces, Reduction, reduce_verdict};
-ghost use Rattle.reducer.specs.Work.{small, middle_words, middle, Roomy, Ready, Begun, Finished, Blank, Fresh, Cleared};
+ghost use Rattle.reducer.specs.Work.{Roomy, Ready, Begun, Finished, Blank, Fresh};
 
-use bitset::LargestCell;
-use calls::{Refusal, Verdict};
-use rows::view;
+use calls::Refusal;
+use rows::view::View;
 use table::Table;
 
 // The most cells of a table whose rows have one word.
@@ -22,192 +22,150 @@ const MIDDLE_WORDS: usize = 4;
 
 const MIDDLE: usize = MIDDLE_WORDS * SMALL;
 
-// Finishes row c, whose boundary is b: while an earlier row has the same largest cell, it is added. Answers the additions made.
-// Of the table only the contract speaks.
-fn finish_row(
-    t: &[u16],
-    c: usize,
-    w: usize,
-    b: &mut [u64],
-    evidence: &mut [u64],
-    kept: &mut [u64],
-    owner: &mut [u16],
-) -> u64
-    requires frame { Frame (view_of t.now) }
-    requires c_bound { c < (cells t.now).size }
-    requires w_value { w ≡ row_width (cells t.now) }
-    requires begun { Begun (cells t.now) c b.old evidence.old kept.old owner.old }
-    ensures { Finished (cells t.now) c evidence.old evidence.new kept.new owner.new result }
-{
-    let mut additions = 0;
-    loop {
-        let largest = bitset::largest(b);
-        match largest {
-            LargestCell::Nothing => {
+// The words of the boundaries of all rows, for a table of middle size and for the largest.
+const MIDDLE_KEPT: usize = MIDDLE * MIDDLE_WORDS;
+
+const LARGE_KEPT: usize = Table::CAPACITY * bitset::FULL;
+
+// The boundaries of finished rows, each kept at its largest cell, and beside it the number of the row.
+#[derive(Drop)]
+struct Kept<'a> {
+    words: &'a mut [u64],
+    owner: &'a mut [Option<u16>],
+}
+
+impl<'a> Kept<'a> {
+    // Finishes row c, whose boundary is b: while an earlier row has the same largest cell, it is added. Answers the additions made.
+    // Of the table only the contract speaks.
+    fn finish_row(
+        &mut self,
+        view: View<'_>,
+        c: usize,
+        w: usize,
+        b: &mut [u64],
+        evidence: &mut [u64],
+    ) -> u64
+        requires c_bound { c < (cells_of view).size }
+        requires w_value { w ≡ row_width (cells_of view) }
+        requires begun { Begun (cells_of view) c b.old evidence.old self.old.words.now self.old.owner.now }
+        ensures { Finished (cells_of view.entry) c evidence.old evidence.new self.new.words.now self.new.owner.now result }
+    {
+        let mut additions = 0;
+        while let Some(m) = bitset::largest(b) {
+            let Some(a) = self.owner[m] else {
+                self.owner[m] = Some(c as u16);
+                bitset::keep_row(self.words, m, w, b);
                 return additions;
-            }
-            LargestCell::Cell(m) => {
-                let a = owner[m];
-                if a == Table::FREE {
-                    owner[m] = c as u16;
-                    bitset::keep_row(kept, m, w, b);
-                    return additions;
-                }
-                bitset::add_row(evidence, c, a as usize, w);
-                bitset::add_kept(b, kept, m, w);
-                additions += 1;
+            };
+            bitset::add_row(evidence, c, a as usize, w);
+            // Lent anew, so that the words are known to stay as they were.
+            let words = &mut *self.words;
+            bitset::add_kept(b, words, m, w);
+            additions += 1;
+        }
+        additions
+    }
+
+    // Makes row c from the rows below it: the cell alone, and then as many additions as it takes, which it answers.
+    fn reduce_row(&mut self, view: View<'_>, c: usize, w: usize, evidence: &mut [u64]) -> u64
+        requires c_value { (cells_of view).live c ≡ true }
+        requires w_value { w ≡ row_width (cells_of view) }
+        requires ready { Ready (cells_of view) c evidence.old self.old.words.now self.old.owner.now }
+        ensures { Finished (cells_of view.entry) c evidence.old evidence.new self.new.words.now self.new.owner.now result }
+    {
+        bitset::start_row(evidence, c, w);
+        // A point has no faces, so nothing is added to its row.
+        if view.dim(c) == 0 {
+            return 0;
+        }
+        let mut faces = [0; bitset::FULL];
+        rows::add_faces(view, c, &mut faces);
+        self.finish_row(view, c, w, &mut faces[..w], evidence)
+    }
+
+    // Takes the live cells in rising number, and counts the additions by dimension.
+    fn reduce_rows(
+        &mut self,
+        view: View<'_>,
+        evidence: &mut [u64],
+        additions: &mut [u64; Table::DIMENSIONS],
+    )
+        requires roomy { Roomy (cells_of view) evidence.old self.old.words.now self.old.owner.now }
+        requires fresh { Fresh evidence.old self.old.owner.now }
+        ensures { Reduction (cells_of view.entry) evidence.new additions.new }
+    {
+        let n = view.size();
+        let w = bitset::words_for(n);
+        *additions = [0; Table::DIMENSIONS];
+        for c in 0..n {
+            let p = view.dim(c);
+            if p < Table::DIMENSIONS {
+                additions[p] += self.reduce_row(view, c, w, evidence);
             }
         }
     }
 }
 
-// Makes row c from the rows below it: the cell alone, and then as many additions as it takes, which it answers.
-fn reduce_row(
-    t: &[u16],
-    c: usize,
-    w: usize,
+// Takes all rows of a table, with room for the boundaries of so many words in all and for so many cells. A small table asks for small
+// arrays: setting large ones to 0 would cost more than its rows.
+fn fill_within<const KEPT: usize, const OWNERS: usize>(
+    view: View<'_>,
     evidence: &mut [u64],
-    kept: &mut [u64],
-    owner: &mut [u16],
-) -> u64
-    requires frame { Frame (view_of t.now) }
-    requires c_value { (cells t.now).live c ≡ true }
-    requires w_value { w ≡ row_width (cells t.now) }
-    requires ready { Ready (cells t.now) c evidence.old kept.old owner.old }
-    ensures { Finished (cells t.now) c evidence.old evidence.new kept.new owner.new result }
-{
-    bitset::start_row(evidence, c, w);
-    // A point has no faces, so nothing is added to its row.
-    if view::dim(t, c) == 0 {
-        return 0;
-    }
-    let mut faces = [0; bitset::FULL];
-    rows::add_faces(t, c, &mut faces);
-    finish_row(t, c, w, &mut faces[..w], evidence, kept, owner)
-}
-
-// Takes the live cells in rising number, and counts the additions by dimension.
-fn reduce_rows(
-    t: &[u16],
-    evidence: &mut [u64],
-    kept: &mut [u64],
-    owner: &mut [u16],
     additions: &mut [u64; Table::DIMENSIONS],
 )
-    requires frame { Frame (view_of t.now) }
-    requires roomy { Roomy (cells t.now) evidence.old kept.old owner.old }
-    requires fresh { Fresh evidence.old owner.old }
-    ensures { Reduction (cells t.now) evidence.new additions.new }
-{
-    let n = view::size(t);
-    let w = bitset::words_for(n);
-    *additions = [0; Table::DIMENSIONS];
-    for c in 0..n {
-        let p = view::dim(t, c);
-        if p >= Table::DIMENSIONS {
-            continue;
-        }
-        let made = reduce_row(t, c, w, evidence, kept, owner);
-        additions[p] += made;
-    }
-}
-
-// Sets every word to 0.
-fn clear(words: &mut [u64])
-    ensures { Cleared words.old words.new }
-{
-    let mut k = 0;
-    while k < words.len() {
-        words[k] = 0;
-        k += 1;
-    }
-}
-
-// Takes all rows of a table of one word to a row. A small table asks for small arrays: setting large ones to 0 would cost more than its rows.
-fn fill_small(t: &[u16], evidence: &mut [u64], additions: &mut [u64; Table::DIMENSIONS])
-    requires frame { Frame (view_of t.now) }
-    requires evidence_len { length evidence.old ≡ evidence_words (cells t.now) }
-    requires t_bound { (cells t.now).size ≤ small }
+    requires evidence_len { length evidence.old ≡ evidence_words (cells_of view) }
     requires blank { Blank evidence.old }
-    ensures { Reduction (cells t.now) evidence.new additions.new }
+    requires kept_room { bits * row_width (cells_of view) * row_width (cells_of view) ≤ KEPT }
+    requires owner_room { bits * row_width (cells_of view) ≤ OWNERS }
+    requires kept_most { KEPT ≤ capacity * full_width }
+    requires owners_most { OWNERS ≤ capacity }
+    ensures { Reduction (cells_of view.entry) evidence.new additions.new }
 {
-    let mut kept = [0; SMALL];
-    let mut owner = [Table::FREE; SMALL];
-    reduce_rows(t, evidence, &mut kept, &mut owner, additions);
-}
-
-// The same for up to four words to a row.
-fn fill_middle(t: &[u16], evidence: &mut [u64], additions: &mut [u64; Table::DIMENSIONS])
-    requires frame { Frame (view_of t.now) }
-    requires evidence_len { length evidence.old ≡ evidence_words (cells t.now) }
-    requires t_bound { (cells t.now).size ≤ middle }
-    requires blank { Blank evidence.old }
-    ensures { Reduction (cells t.now) evidence.new additions.new }
-{
-    let mut kept = [0; MIDDLE * MIDDLE_WORDS];
-    let mut owner = [Table::FREE; MIDDLE];
-    reduce_rows(t, evidence, &mut kept, &mut owner, additions);
-}
-
-// The same for any table.
-fn fill_large(t: &[u16], evidence: &mut [u64], additions: &mut [u64; Table::DIMENSIONS])
-    requires frame { Frame (view_of t.now) }
-    requires evidence_len { length evidence.old ≡ evidence_words (cells t.now) }
-    requires blank { Blank evidence.old }
-    ensures { Reduction (cells t.now) evidence.new additions.new }
-{
-    let mut kept = [0; Table::CAPACITY * bitset::FULL];
-    let mut owner = [Table::FREE; Table::CAPACITY];
-    reduce_rows(t, evidence, &mut kept, &mut owner, additions);
+    let mut words = [0; KEPT];
+    let mut owner = [None; OWNERS];
+    let mut kept = Kept {
+        words: &mut words,
+        owner: &mut owner,
+    };
+    kept.reduce_rows(view, evidence, additions);
 }
 
 // The whole of the work, over any old contents.
-fn fill(t: &[u16], evidence: &mut [u64], additions: &mut [u64; Table::DIMENSIONS])
-    requires frame { Frame (view_of t.now) }
-    requires evidence_len { length evidence.old ≡ evidence_words (cells t.now) }
-    ensures { Reduction (cells t.now) evidence.new additions.new }
+fn fill(view: View<'_>, evidence: &mut [u64], additions: &mut [u64; Table::DIMENSIONS])
+    requires { length evidence.old ≡ evidence_words (cells_of view) }
+    ensures { Reduction (cells_of view.entry) evidence.new additions.new }
 {
-    clear(evidence);
-    let n = view::size(t);
+    evidence.fill(0);
+    let n = view.size();
     if n <= SMALL {
-        fill_small(t, evidence, additions);
-        return;
+        fill_within::<SMALL, SMALL>(view, evidence, additions);
+    } else if n <= MIDDLE {
+        fill_within::<MIDDLE_KEPT, MIDDLE>(view, evidence, additions);
+    } else {
+        fill_within::<LARGE_KEPT, { Table::CAPACITY }>(view, evidence, additions);
     }
-    if n <= MIDDLE {
-        fill_middle(t, evidence, additions);
-        return;
-    }
-    fill_large(t, evidence, additions);
 }
 
 // Whether the reducer is refused: 1 for a length, 2 for a table that is not valid.
-fn judge(t: &[u16], evidence: &[u64]) -> Verdict
+fn judge(t: &[u16], evidence: &[u64]) -> Result<(), Refusal>
     ensures { result ≡ reduce_verdict t.now evidence.now }
 {
     if !rows::lengths_fit(t, evidence) {
-        return Verdict::Refused(Refusal::Length);
+        return Err(Refusal::Length);
     }
     audit::audit(t)
 }
 
 // Fills the evidence by the printed rule, and tells the additions made in each dimension. Refused with 1, 2, in that order; then no
 // word and no count changes.
-pub fn reduce(t: &[u16], evidence: &mut [u64], additions: &mut [u64; Table::DIMENSIONS]) -> Verdict
+pub fn reduce(
+    t: &[u16],
+    evidence: &mut [u64],
+    additions: &mut [u64; Table::DIMENSIONS],
+) -> Result<(), Refusal>
     ensures { Reduces t.now evidence.old additions.old result evidence.new additions.new }
 {
-    let v = judge(t, evidence);
-    match v {
-        Verdict::Refused(x) => Verdict::Refused(x),
-        Verdict::Accepted => {
-            fill(t, evidence, additions);
-            Verdict::Accepted
-        }
-    }
+    judge(t, evidence)?;
+    fill(View { words: t }, evidence, additions);
+    Ok(())
 }
-
-// The numbers of the code are those of the definitions.
-fn same_numbers()
-    ensures value { SMALL ≡ small }
-    ensures middle_words_value { MIDDLE_WORDS ≡ middle_words }
-    ensures value_2 { MIDDLE ≡ middle }
-{}

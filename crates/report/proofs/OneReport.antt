@@ -8,13 +8,15 @@ use lib.ListN.{length, replicate, length-drop, length-replicate, take-append-dro
 use lib.Seq.{length-take-le}
 use Rattle.homology.specs.Evidence.{cells_in}
 use Rattle.homology.proofs.Unique.{hole_number_unique}
-use Rattle.calls.specs.declared.Verdict.{Verdict}
-use Rattle.calls.specs.declared.Verdict.TheVariants.{Accepted, Refused}
+use Rattle.calls.specs.Calls.{Verdict}
+use Rattle.std.specs.declared.result.Result.TheVariants.{Ok, Err}
+use Prim.{tt}
 use Rattle.complex.specs.Cells.{cells}
 use Rattle.table.specs.Kind.{dimensions}
 use Rattle.sketch.proofs.Pieces.{pieces_cong}
-use Rattle.report.specs.Lines.{line, lines_of, room, text_of, rest_of, ZerosAfter}
-use Rattle.report.specs.declared.Text.{Text}
+use Rattle.report.specs.Lines.{line, lines_of, room}
+use Rattle.report.specs.Text.{text_of, rest_of, ZerosAfter}
+use Rattle.report.specs.declared.text.Text.TheInside.{Inside}
 use Rattle.report.specs.Report.{table_in, file_verdict, HoleLines, Reports}
 
 same_lines : (n h h' : ℕ → ℕ) → ((p : ℕ) → p < dimensions → h p ≡ h' p) → lines_of n h ≡ lines_of n h'
@@ -30,14 +32,14 @@ one_hole_lines t x y a b =
     ∙ sym b.lines
 
 by_verdict : (f x y : List ℕ) → Reports f x → Reports f y → (v : Verdict) → file_verdict f ≡ v → x ≡ y
-by_verdict f x y a b Accepted e = one_hole_lines (table_in f) x y (a.accepted e) (b.accepted e)
-by_verdict f x y a b (Refused r) e = a.refused r e ∙ sym (b.refused r e)
+by_verdict f x y a b (Ok tt) e = one_hole_lines (table_in f) x y (a.accepted e) (b.accepted e)
+by_verdict f x y a b (Err r) e = a.refused r e ∙ sym (b.refused r e)
 
 pub one_report : (f x y : List ℕ) → Reports f x → Reports f y → x ≡ y
 one_report f x y a b = by_verdict f x y a b (file_verdict f) refl
 
 -- and in one way: the length and every byte follow from it
-module _ (x : Text) (inside : x.len < room) (zeros : ZerosAfter x) where
+module _ (x : Inside) (inside : x.len < room) (zeros : ZerosAfter x) where
   text_long : length (text_of x) ≡ x.len
   text_long =
       let long : length (rest_of x) ≡ room - x.len = ap length zeros ∙ length-replicate (room - x.len) 0 in
@@ -49,7 +51,7 @@ module _ (x : Text) (inside : x.len < room) (zeros : ZerosAfter x) where
       ∙ ap (λ (l : List ℕ). text_of x ++ l) (zeros ∙ ap (λ (n : ℕ). replicate (room - n) 0) (sym text_long))
 
 pub one_text :
-    (f : List ℕ) (x y : Text) → Reports f (text_of x) → (x.len < room) × ZerosAfter x → Reports f (text_of y) → (y.len < room) × ZerosAfter y →
+    (f : List ℕ) (x y : Inside) → Reports f (text_of x) → (x.len < room) × ZerosAfter x → Reports f (text_of y) → (y.len < room) × ZerosAfter y →
     (x.len ≡ y.len) × (x.bytes ≡ y.bytes)
 one_text f x y a p b q =
     let e : text_of x ≡ text_of y = one_report f (text_of x) (text_of y) a b in (

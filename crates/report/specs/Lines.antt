@@ -1,10 +1,9 @@
 -- The text of a report: numbers in decimal digits, one space between, every line ended by one newline byte.
 -- A reader must believe these definitions; nothing here is proved.
-use Rattle.std.specs.Prelude.{◌≡◌, List, [], ◌∷◌, ◌++◌, ℕ, ◌+◌, ◌-◌, ◌/◌, ◌%◌, take, drop, replicate, ltb}
+use Rattle.std.specs.Prelude.{List, [], ◌∷◌, ◌++◌, ℕ, ◌+◌, ◌*◌, ◌/◌, ◌%◌, ltb}
 use Rattle.counting.specs.Counting.{pick}
 use Rattle.sketch.specs.Form.{pieces}
 use Rattle.table.specs.Kind.{dimensions}
-use Rattle.report.specs.declared.Text.{Text}
 
 -- the byte of a digit
 abbrev pub digit : ℕ → ℕ
@@ -41,13 +40,9 @@ refused_line r = refused_word ++ (decimal r ++ (newline ∷ []))
 abbrev pub room : ℕ
 room = 96
 
--- the bytes that a text holds, and those after them
-abbrev pub text_of : Text → List ℕ
-text_of x = take x.len x.bytes
+-- the most digits of a number, and the most bytes of a line: three numbers, each with one byte after it
+abbrev pub longest_number : ℕ
+longest_number = 3
 
-abbrev pub rest_of : Text → List ℕ
-rest_of x = drop x.len x.bytes
-
--- every byte after the text is 0
-abbrev pub ZerosAfter : Text → Type 0
-ZerosAfter x = rest_of x ≡ replicate (room - x.len) 0
+abbrev pub longest_line : ℕ
+longest_line = 3 * (longest_number + 1)

@@ -8,8 +8,9 @@ use Rattle.table.specs.Kind.{capacity, width, free_mark, dimensions}
 use Rattle.calls.specs.Numbers.{number_of}
 use Rattle.calls.specs.declared.Refusal.{Refusal}
 use Rattle.calls.specs.declared.Refusal.TheVariants.{BadContents}
-use Rattle.calls.specs.declared.Verdict.{Verdict}
-use Rattle.calls.specs.declared.Verdict.TheVariants.{Accepted, Refused}
+use Rattle.calls.specs.Calls.{Verdict}
+use Rattle.std.specs.declared.result.Result.TheVariants.{Ok, Err}
+use Prim.{tt}
 use Rattle.complex.specs.Cells.{cells}
 use Rattle.sketch.specs.Form.{contents_size, longest}
 use Rattle.sketch.specs.Read.{size_in, read_verdict, described}
@@ -26,7 +27,7 @@ abbrev pub blank : List ℕ → List ℕ
 blank f = replicate (size_in f * width) free_mark
 
 unfoldable pub file_verdict : List ℕ → Verdict
-file_verdict f = pick (no_sketch f) (Refused BadContents) (read_verdict (blank f) f)
+file_verdict f = pick (no_sketch f) (Err BadContents) (read_verdict (blank f) f)
 
 -- the table that an accepted file describes
 abbrev pub table_in : List ℕ → List ℕ
@@ -39,5 +40,5 @@ pub record HoleLines (t text : List ℕ) : Type 0 where
   pub lines : text ≡ lines_of (cells_in (cells t)) holes
 
 pub record Reports (f text : List ℕ) : Type 0 where
-  pub refused : (r : Refusal) → file_verdict f ≡ Refused r → text ≡ refused_line (number_of r)
-  pub accepted : file_verdict f ≡ Accepted → HoleLines (table_in f) text
+  pub refused : (r : Refusal) → file_verdict f ≡ Err r → text ≡ refused_line (number_of r)
+  pub accepted : file_verdict f ≡ Ok tt → HoleLines (table_in f) text

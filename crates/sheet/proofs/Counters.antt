@@ -6,17 +6,18 @@ use mathlib.Core.List.{List}
 use Prim.Native.Nat.{ℕ, ◌+◌, ◌≤◌, ◌<◌}
 use native.Mathlib.Omega.{arith}
 use borrow.Author.Tests.{eq-eqb, ne_eqb}
-use lib.ListN.{length, get_or, set, replicate, length-set, length-replicate, get_or-replicate}
+use lib.ListN.{length, get_or, set, take, replicate, length-set, length-replicate, get_or-replicate}
 use lib.Seq.{get_or-set_same, get_or-set_other}
 use lib.Dec.{eqb}
 use Rattle.counting.specs.Counting.{how_many}
 use Rattle.counting.proofs.Cases.{same_or_other}
 use Rattle.counting.proofs.Counting.{how_many_zero, how_many_yes_more, how_many_no_more, how_many_mono}
-use Rattle.table.specs.Kind.{capacity, used}
-use Rattle.table.specs.Table.{cells_of, dim, face, Live, Valid}
+use Rattle.table.proofs.Slices.{taken, face_taken}
+use Rattle.table.specs.Kind.{capacity, faces, used}
+use Rattle.table.specs.Table.{cells_of, dim, face, faces_of, Live}
 use Rattle.table.proofs.Places.{used_says}
 use Rattle.sheet.specs.Sheet.{places}
-use Rattle.sheet.specs.Sides.{FaceAt, sides_below, Told, Counted, Crowded}
+use Rattle.sheet.specs.Sides.{levels_of, sides_below, Told, Counted, IsNext, Crowded}
 use Rattle.counting.proofs.Totals.{total_zero, total_more, total_grows}
 
 -- whether place l of c names u
@@ -52,24 +53,32 @@ module _ (l p k s s' : ℕ) (h : Told l p k s) where
       record { most = omega arith; some = λ _. omega arith; wings = λ q. absurd (i q); few = omega arith }
 
 -- the counters k within cell c, after its places below j
-pub record Counting (t k : List ℕ) (l c j : ℕ) : Type 0 where
+pub record Counting (t k : List ℕ) (c j : ℕ) : Type 0 where
   pub room : cells_of t ≤ length k
-  pub each : (u : ℕ) → u < cells_of t → Told l (dim t u) (get_or k u 0) (sides_below t u c + how_many (names t c u) j)
+  pub each : (u : ℕ) → u < cells_of t → Told (levels_of t) (dim t u) (get_or k u 0) (sides_below t u c + how_many (names t c u) j)
 
-module _ (t k : List ℕ) (l c : ℕ) where
+-- f is the cell that c names at place j: it lives, one dimension down
+pub record FaceAt (t : List ℕ) (c j f : ℕ) : Type 0 where
+  pub named : f ≡ face t c j
+  pub living : Live t f
+  pub below : dim t f + 1 ≡ dim t c
+
+module _ (t k : List ℕ) (c : ℕ) where
+  abbrev l : ℕ
+  l = levels_of t
+
   abbrev passed : ℕ → ℕ → ℕ
   passed u j = sides_below t u c + how_many (names t c u) j
 
-  pub counting_starts : Counted t k l c → Counting t k l c 0
+  pub counting_starts : Counted t k c → Counting t k c 0
   counting_starts h =
       record {
         room = h.room;
         each = λ u i. let e : sides_below t u c ≡ passed u 0 = omega (arith, how_many_zero (names t c u)) in subst (Told l (dim t u) (get_or k u 0)) e (h.each u i);
       }
 
-  -- A turn of the count over the places keeps its invariant, the length and what is counted: the counter of the cell f that place j
-  -- names is written anew.
-  module _ (j f : ℕ) (h : Counting t k l c j) (a : FaceAt t c j f) where
+  -- A turn of the count over the places keeps its invariant: the counter of the cell f that place j names is written anew.
+  module _ (j f : ℕ) (h : Counting t k c j) (a : FaceAt t c j f) where
     told : Told l (dim t f) (get_or k f 0) (passed f j)
     told = h.each f a.living.inside
 
@@ -89,26 +98,20 @@ module _ (t k : List ℕ) (l c : ℕ) where
           subst (λ x. Told l (dim t u) x (passed u (j + 1))) (sym (get_or-set_other k f u v 0 ne))
           (subst (Told l (dim t u) (get_or k u 0)) same (h.each u b)))
 
-      turn : (k₀ : List ℕ) → length k ≡ length k₀ → (length k' ≡ length k₀) × Counting t k' l c (j + 1)
-      turn k₀ b =
-          let s : length k' ≡ length k = length-set k f v in
-          (s ∙ b, record { room = omega (arith, h.room); each = counter_more })
+      turn : Counting t k' c (j + 1)
+      turn = record { room = omega (arith, h.room, length-set k f v); each = counter_more }
 
     -- counted, where the counter was below 2,
-    pub count_turn :
-        (k₀ : List ℕ) → length k ≡ length k₀ → get_or k f 0 < 2 →
-        (length (set k f (get_or k f 0 + 1)) ≡ length k₀) × Counting t (set k f (get_or k f 0 + 1)) l c (j + 1)
-    count_turn k₀ b few = turn (get_or k f 0 + 1) (told_counted l (dim t f) (get_or k f 0) (passed f j) (passed f (j + 1)) told one_more few) k₀ b
+    pub count_turn : get_or k f 0 < 2 → Counting t (set k f (get_or k f 0 + 1)) c (j + 1)
+    count_turn few = turn (get_or k f 0 + 1) (told_counted l (dim t f) (get_or k f 0) (passed f j) (passed f (j + 1)) told one_more few)
 
     -- or marked, where c is not of the largest dimension;
-    pub mark_turn :
-        (k₀ : List ℕ) → length k ≡ length k₀ → (dim t c + 1 ≡ l → ⊥) →
-        (length (set k f 1) ≡ length k₀) × Counting t (set k f 1) l c (j + 1)
-    mark_turn k₀ b off =
-        turn 1 (told_marked l (dim t f) (get_or k f 0) (passed f j) (passed f (j + 1)) told one_more (λ e. off (omega arith))) k₀ b
+    pub mark_turn : (dim t c + 1 ≡ l → ⊥) → Counting t (set k f 1) c (j + 1)
+    mark_turn off =
+        turn 1 (told_marked l (dim t f) (get_or k f 0) (passed f j) (passed f (j + 1)) told one_more (λ e. off (omega arith)))
 
     -- and where it was 2 already, this is a third place.
-    pub third_place : c < cells_of t → dim t c + 1 ≡ l → j < used (dim t c) → 2 ≤ get_or k f 0 → Crowded t l
+    pub third_place : c < cells_of t → dim t c + 1 ≡ l → j < used (dim t c) → 2 ≤ get_or k f 0 → Crowded t
     third_place b e i two =
         record {
           cell = f;
@@ -118,7 +121,7 @@ module _ (t k : List ℕ) (l c : ℕ) where
         }
 
   -- After all places the cell is counted.
-  pub counting_ends : (j : ℕ) → Counting t k l c j → j ≡ used (dim t c) → Counted t k l (c + 1)
+  pub counting_ends : (j : ℕ) → Counting t k c j → j ≡ used (dim t c) → Counted t k (c + 1)
   counting_ends j h e =
       record {
         room = h.room;
@@ -133,23 +136,30 @@ told_none l p k s e i =
     record { most = omega arith; some = λ h. absurd (omega arith); wings = λ q. omega arith; few = omega arith }
 
 -- counters that are all 0 have counted no cell
-pub counted_none : (t : List ℕ) (l : ℕ) → cells_of t ≤ capacity → Counted t (replicate capacity 0) l 0
-counted_none t l h =
+pub counted_none : (t : List ℕ) → cells_of t ≤ capacity → Counted t (replicate capacity 0) 0
+counted_none t h =
     record {
       room = rw (length-replicate {A = ℕ} capacity 0) h;
-      each = λ u b. told_none l (dim t u) (get_or (replicate capacity 0) u 0) (sides_below t u 0) (get_or-replicate {A = ℕ} capacity u 0 0 (omega arith)) (sides_none t u);
+      each = λ u b. told_none (levels_of t) (dim t u) (get_or (replicate capacity 0) u 0) (sides_below t u 0) (get_or-replicate {A = ℕ} capacity u 0 0 (omega arith)) (sides_none t u);
     }
 
--- and after the last cell they have counted the table
-pub counted_all : (t k : List ℕ) (l c n : ℕ) → n ≡ cells_of t → c ≤ n → n ≤ c → Counted t k l c → Counted t k l (cells_of t)
-counted_all t k l c n e h g i =
-    let z : c ≡ cells_of t = omega arith in
-    subst (Counted t k l) z i
+-- The faces of the cell that is next, read where its record uses them.
+module _ {t k : List ℕ} {c : ℕ} (next : IsNext t c k) {fs : List ℕ} (by_value : fs ≡ faces_of t c) {m : ℕ} (many : (m ≡ used (dim t c)) × (m ≤ faces)) where
+  module _ {j : ℕ} (l : j < length (take m fs)) where
+    inside : j < m
+    inside = omega (arith, l, taken t c by_value many.1)
 
--- a face of a record, at a place that it uses
-module _ (t : List ℕ) (v : Valid t) (c j f : ℕ) (h : c < cells_of t) (i : j < used (dim t c)) (e : f ≡ face t c j) where
-  living : Live t c
-  living = record { inside = h; low = (used_says (dim t c) j i).1 }
+    within : j < used (dim t c)
+    within = omega (arith, inside, many.0)
 
-  pub face_at_lem : FaceAt t c j f
-  face_at_lem = record { named = e; living = rw e (v.face_live c j living i); below = rw e (omega (arith, v.face_dim c j living i)) }
+    is_face : get_or (take m fs) j 0 ≡ face t c j
+    is_face = face_taken t c by_value many.1 inside
+
+    pub face_named : FaceAt t c j (get_or (take m fs) j 0)
+    face_named =
+        let living : Live t c = record { inside = next.inside; low = (used_says (dim t c) j within).1 } in
+        record {
+          named = is_face;
+          living = rw is_face (next.valid.face_live c j living within);
+          below = rw is_face (omega (arith, next.valid.face_dim c j living within));
+        }

@@ -1,11 +1,11 @@
 -- The largest live dimension: no live cell exceeds it, some live cell has it, and the levels are one more.
 -- What carries them: recursion on the number of cells, with the cases of the cell at the bound. Assumes nothing.
-use mathlib.Core.Path.{◌≡◌, refl, sym, ap, ◌∙◌}
+use mathlib.Core.Path.{◌≡◌, refl, sym, ap, ap₂, ◌∙◌}
 use mathlib.Core.Bool.{Bool, true, false, false≢true, or-false}
 use mathlib.Core.List.{List}
 use mathlib.Core.Logic.{◌⊎◌, inl, inr, ⊎_elim}
 use Prim.Native.Nat.{ℕ, zero, suc, max, ◌+◌, ◌≤◌, ◌<◌}
-use native.Mathlib.Nat.{not-suc-le-zero, le-max_left, le-max_right, max-eq_left, max-eq_right, zero-max, suc-max-suc}
+use native.Mathlib.Nat.{not-suc-le-zero, le-max_left, le-max_right, max-eq_left, max-eq_right, max-zero, zero-max, suc-max-suc}
 use native.Mathlib.Numerals.{add-one}
 use native.Mathlib.Omega.{arith}
 use borrow.Author.Tests.{lt-ltb, le-ltb}
@@ -103,7 +103,7 @@ module _ (t : List ℕ) where
       (λ b. b.1)
       (attained_or_bare m)
 
-  -- the levels at the start, at a live cell that is higher or not, and at a number that is none
+  -- the levels at the start, at a live cell and at a number that is none
   pub levels_zero : levels_below t 0 ≡ 0
   unfolding levels_below
   levels_zero = refl
@@ -112,40 +112,25 @@ module _ (t : List ℕ) where
   unfolding levels_below
   levels_live m e = rw e
 
-  levels_higher : (m : ℕ) → live t m ≡ true → levels_below t m ≤ dim t m → levels_below t (m + 1) ≡ dim t m + 1
-  levels_higher m e h = rw (add-one m, add-one (dim t m)) (levels_live m e ∙ max-eq_right (omega arith))
-
-  levels_lower : (m : ℕ) → live t m ≡ true → dim t m < levels_below t m → levels_below t (m + 1) ≡ levels_below t m
-  levels_lower m e h = rw (add-one m) (levels_live m e ∙ max-eq_left h)
-
   levels_free : (m : ℕ) → live t m ≡ false → levels_below t (suc m) ≡ levels_below t m
   unfolding levels_below
   levels_free m e = rw e
 
-  levels_past : (m : ℕ) → live t m ≡ false → levels_below t (m + 1) ≡ levels_below t m
-  levels_past m e = rw (add-one m) (levels_free m e)
+  -- one turn of the pass that finds them: the larger of those so far and the level of cell m
+  levels_more : (m : ℕ) → m < cells_of t → levels_below t (m + 1) ≡ max (levels_below t m) (level_of (dim t m))
+  levels_more m h =
+      ⊎_elim
+      (λ free.
+      let dead : live t m ≡ false = not_true_false (live t m) (λ v. omega (arith, (live_true t m v).low)) in
+      rw (add-one m, level_free (dim t m) free) (levels_free m dead ∙ sym (max-zero (levels_below t m))))
+      (λ low.
+      rw (add-one m, level_live (dim t m) low ∙ add-one (dim t m)) (levels_live m (live_says t m (record { inside = h; low = low }))))
+      (below_or_not top (dim t m))
 
-  -- one turn of the pass that finds them: l levels below cell m, of level q, become l'
-  module _ (m l p q l' : ℕ) (h : m < cells_of t) (e : l ≡ levels_below t m) (d : p ≡ dim t m) (lv : q ≡ level_of p) where
-    living : p ≤ top → live t m ≡ true
-    living low = live_says t m (record { inside = h; low = omega arith })
-
-    past : top < p → levels_below t (m + 1) ≡ levels_below t m
-    past free = levels_past m (not_true_false (live t m) (λ v. omega (arith, (live_true t m v).low)))
-
-    pub turn_higher : l < q → l' ≡ q → l' ≡ levels_below t (m + 1)
-    turn_higher up i =
-        ⊎_elim
-        (λ free. absurd (omega (arith, lv ∙ level_free p free)))
-        (λ low. let z : q ≡ p + 1 = lv ∙ level_live p low in omega (arith, levels_higher m (living low) (omega arith)))
-        (below_or_not top p)
-
-    pub turn_lower : q ≤ l → l' ≡ l → l' ≡ levels_below t (m + 1)
-    turn_lower down i =
-        ⊎_elim
-        (λ free. i ∙ e ∙ sym (past free))
-        (λ low. let z : q ≡ p + 1 = lv ∙ level_live p low in i ∙ e ∙ sym (levels_lower m (living low) (omega arith)))
-        (below_or_not top p)
+  -- as the pass takes it: l levels below cell m, of level q, become l'
+  pub levels_turn : (m l p q l' : ℕ) → m < cells_of t → l ≡ levels_below t m → p ≡ dim t m → q ≡ level_of p → l' ≡ max l q → l' ≡ levels_below t (m + 1)
+  levels_turn m l p q l' h e d lv i =
+      i ∙ ap₂ max e (lv ∙ ap level_of d) ∙ sym (levels_more m h)
 
   pub levels_all : (l m n : ℕ) → n ≡ cells_of t → m ≤ n → n ≤ m → l ≡ levels_below t m → l ≡ levels_below t (cells_of t)
   levels_all l m n e h g i =

@@ -1,6 +1,7 @@
 -- The sheet test at small tables, all of whose edges are loops at the one point, so that the law holds of any triangles.
 -- What carries it: each answer is computed. Assumes nothing.
 use mathlib.Core.Path.{◌≡◌, refl}
+use mathlib.Core.Bool.{true, false}
 use mathlib.Core.List.{List, [], ◌∷◌}
 use Prim.Native.Nat.{ℕ}
 use Rattle.counting.specs.Counting.{all, how_many, some_has, total}
@@ -9,7 +10,7 @@ use Rattle.table.specs.Table.{sized, live, is_cell}
 use Rattle.audit.specs.Audit.{scan, record_sound, face_sound, law_sound, record_breach, face_breach, law_breach, cell_breach, first_breach, sound}
 use Rattle.sheet.specs.Sheet.{has_face, places, wings, largest_dim_below, largest_dim, covered, is_sheet, sheet_answer}
 use Rattle.sheet.specs.OldSheet.{old_wings}
-use Rattle.sheet.specs.declared.Judged.TheVariants.{Yes, No}
+use Rattle.std.specs.declared.result.Result.TheVariants.{Ok}
 
 -- a record, before the rest of its table
 abbrev point : List ℕ → List ℕ
@@ -38,17 +39,17 @@ torus = point (edge 0 0 (edge 0 0 (edge 0 0 (triangle 2 3 1 (triangle 1 3 2 []))
 
 pub record Examples : Type 0 where
   -- one loop is a sheet: its point is named at two places
-  one_loop : sheet_answer ring ≡ Yes
+  one_loop : sheet_answer ring ≡ Ok true
   -- two loops at one point are none
-  two_loops : sheet_answer eight ≡ No
+  two_loops : sheet_answer eight ≡ Ok false
   -- a triangle that names one edge three times is none, though it is but one triangle
-  one_edge : sheet_answer cap ≡ No
+  one_edge : sheet_answer cap ≡ Ok false
   -- nor are two triangles that meet an edge at three places, which the test before took for a sheet
-  folded_strip : sheet_answer folded ≡ No
+  folded_strip : sheet_answer folded ≡ Ok false
   folded_wings : (wings folded 2 1 ≡ 3) × (wings folded 2 2 ≡ 3)
   folded_before : (old_wings folded 2 1 ≡ 2) × (old_wings folded 2 2 ≡ 2)
   -- the torus of two triangles is a sheet
-  two_triangles : sheet_answer torus ≡ Yes
+  two_triangles : sheet_answer torus ≡ Ok true
 
 examples : Examples
 unfolding sized live is_cell all how_many some_has scan record_sound face_sound law_sound record_breach face_breach law_breach cell_breach first_breach sound has_face places total wings largest_dim_below largest_dim covered is_sheet old_wings

@@ -16,7 +16,7 @@ use Rattle.table.specs.Table.{cells_of, dim, Live, live, Valid}
 use Rattle.counting.proofs.Tests.{or_else_lem, all_true, all_says}
 use Rattle.counting.proofs.Cases.{below_or_not, same_or_not, not_true_false}
 use Rattle.sheet.specs.Sheet.{wings, largest_dim, is_sheet}
-use Rattle.sheet.specs.Sides.{levels_below, Counted, Crowded, passes, all_pass}
+use Rattle.sheet.specs.Sides.{levels_of, Counted, Crowded, passes, all_pass}
 use Rattle.sheet.proofs.Dimensions.{levels_are}
 use Rattle.sheet.proofs.Sheets.{Tests, sheet_tests, tests_sheet, cases_or}
 use Rattle.sheet.proofs.Wings.{wings_are_sides, covered_sides, sides_covered}
@@ -44,7 +44,10 @@ same_truth false true f g = g refl
 same_truth false false f g = refl
 
 -- Counters of a whole table, and its levels.
-module _ (t k : List ℕ) (l : ℕ) (valid : Valid t) (counted : Counted t k l (cells_of t)) (living : some_has (live t) (cells_of t) ≡ true) (levels : l ≡ suc (largest_dim t)) where
+module _ (t k : List ℕ) (valid : Valid t) (counted : Counted t k (cells_of t)) (living : some_has (live t) (cells_of t) ≡ true) (levels : levels_of t ≡ suc (largest_dim t)) where
+  abbrev l : ℕ
+  l = levels_of t
+
   abbrev passes_at : ℕ → Bool
   passes_at c = passes (dim t c) l (get_or k c 0)
 
@@ -91,29 +94,30 @@ some_level : (b : Bool) (m : ℕ) → (pick b (suc m) 0 ≡ 0 → ⊥) → (b �
 some_level true m e = (refl, refl)
 some_level false m e = absurd (e refl)
 
-pub no_levels_no : (t : List ℕ) (l : ℕ) → l ≡ levels_below t (cells_of t) → l ≡ 0 → is_sheet t ≡ false
-unfolding largest_dim
-no_levels_no t l e z =
-    let b = no_level (some_has (live t) (cells_of t)) (largest_dim t) (sym (levels_are t (cells_of t)) ∙ sym e ∙ z) in
-    not_true_false (is_sheet t) (λ i. false≢true (sym b ∙ (sheet_tests t i).living))
+module _ (t : List ℕ) where
+  pub no_levels_no : levels_of t ≡ 0 → is_sheet t ≡ false
+  unfolding largest_dim
+  no_levels_no z =
+      let b = no_level (some_has (live t) (cells_of t)) (largest_dim t) (sym (levels_are t (cells_of t)) ∙ z) in
+      not_true_false (is_sheet t) (λ i. false≢true (sym b ∙ (sheet_tests t i).living))
 
--- the levels of a table that has one
-levels_here : (t : List ℕ) (l : ℕ) → l ≡ levels_below t (cells_of t) → (l ≡ 0 → ⊥) → (some_has (live t) (cells_of t) ≡ true) × (l ≡ suc (largest_dim t))
-unfolding largest_dim
-levels_here t l e z =
-    let b = some_level (some_has (live t) (cells_of t)) (largest_dim t) (λ q. z (e ∙ levels_are t (cells_of t) ∙ q)) in
-    (b.0, e ∙ levels_are t (cells_of t) ∙ b.1)
+  -- the levels of a table that has one
+  levels_here : (levels_of t ≡ 0 → ⊥) → (some_has (live t) (cells_of t) ≡ true) × (levels_of t ≡ suc (largest_dim t))
+  unfolding largest_dim
+  levels_here z =
+      let b = some_level (some_has (live t) (cells_of t)) (largest_dim t) (λ q. z (levels_are t (cells_of t) ∙ q)) in
+      (b.0, levels_are t (cells_of t) ∙ b.1)
 
-pub sheet_by_counters : (t k : List ℕ) (l : ℕ) → Valid t → Counted t k l (cells_of t) → l ≡ levels_below t (cells_of t) → (l ≡ 0 → ⊥) → all_pass t l k ≡ is_sheet t
-sheet_by_counters t k l v h e z = let b = levels_here t l e z in passes_is_sheet t k l v h b.0 b.1
+  pub sheet_by_counters : (k : List ℕ) → Valid t → Counted t k (cells_of t) → (levels_of t ≡ 0 → ⊥) → all_pass t (levels_of t) k ≡ is_sheet t
+  sheet_by_counters k v h z = let b = levels_here z in passes_is_sheet t k v h b.0 b.1
 
--- a third wing says no
-pub crowded_no : (t : List ℕ) (l : ℕ) → Valid t → l ≡ levels_below t (cells_of t) → (l ≡ 0 → ⊥) → Crowded t l → is_sheet t ≡ false
-crowded_no t l v e z w =
-    let b = levels_here t l e z in
-    let i : suc (dim t w.cell) ≡ largest_dim t = omega (arith, b.1, w.level) in
-    not_true_false (is_sheet t)
-    (λ q. omega (arith, (sheet_tests t q).pairs w.cell w.living i, wings_are_sides t v (largest_dim t) w.cell (sym i), w.three))
+  -- a third wing says no
+  pub crowded_no : Valid t → (levels_of t ≡ 0 → ⊥) → Crowded t → is_sheet t ≡ false
+  crowded_no v z w =
+      let b = levels_here z in
+      let i : suc (dim t w.cell) ≡ largest_dim t = omega (arith, b.1, w.level) in
+      not_true_false (is_sheet t)
+      (λ q. omega (arith, (sheet_tests t q).pairs w.cell w.living i, wings_are_sides t v (largest_dim t) w.cell (sym i), w.three))
 
 -- the pass over the cells: at the start, one turn more, the turn at which it stops, and the end
 module _ (t k : List ℕ) (l : ℕ) where

@@ -7,8 +7,9 @@ use Rattle.table.specs.Kind.{used}
 use Rattle.table.specs.Table.{cells_of, dim, face, Live, live, is_cell}
 use Rattle.audit.specs.Audit.{audit_grounds}
 use Rattle.calls.specs.Calls.{verdict, on_verdict}
-use Rattle.sheet.specs.declared.Judged.{Judged}
-use Rattle.sheet.specs.declared.Judged.TheVariants.{Yes, No, NotJudged}
+use Rattle.std.specs.declared.result.Result.{Result}
+use Rattle.calls.specs.declared.Refusal.{Refusal}
+use Rattle.std.specs.declared.result.Result.TheVariants.{Ok, Err}
 
 -- an n-cell, or a face of a cell that is reached
 pub data Reached (t : List ℕ) (n : ℕ) : ℕ → Type 0 where
@@ -58,5 +59,5 @@ is_sheet t =
     && (all (cells_of t) (λ c. not (live t c) || (eqb (dim t c) (largest_dim t) || covered t c))
     && all (cells_of t) (λ u. not (live t u && eqb (suc (dim t u)) (largest_dim t)) || leb (wings t (largest_dim t) u) 2))
 
-abbrev pub sheet_answer : List ℕ → Judged
-sheet_answer t = on_verdict (verdict (audit_grounds t)) (pick (is_sheet t) Yes No) NotJudged
+abbrev pub sheet_answer : List ℕ → Result Bool Refusal
+sheet_answer t = on_verdict (verdict (audit_grounds t)) (Ok (is_sheet t)) Err

@@ -3,7 +3,7 @@
 use Rattle.std.specs.Prelude.{◌≡◌, Bool, true, false, ◌||◌, List, ℕ, zero, suc, max, ◌+◌, ◌≤◌, ◌<◌, length, get_or, eqb, ltb}
 use Rattle.counting.specs.Counting.{total, pick, all}
 use Rattle.table.specs.Kind.{top}
-use Rattle.table.specs.Table.{cells_of, dim, face, Live, live}
+use Rattle.table.specs.Table.{cells_of, dim, Live, live, Valid}
 use Rattle.sheet.specs.Sheet.{places}
 
 -- the level of a record with word 0 p: one more than its dimension, or 0 where it is free
@@ -15,11 +15,9 @@ unfoldable pub levels_below : List ℕ → ℕ → ℕ
 levels_below t zero = 0
 levels_below t (suc m) = pick (live t m) (max (levels_below t m) (suc (dim t m))) (levels_below t m)
 
--- f is the cell that c names at place j: it lives, one dimension down
-pub record FaceAt (t : List ℕ) (c j f : ℕ) : Type 0 where
-  pub named : f ≡ face t c j
-  pub living : Live t f
-  pub below : dim t f + 1 ≡ dim t c
+-- the levels of the whole table
+abbrev pub levels_of : List ℕ → ℕ
+levels_of t = levels_below t (cells_of t)
 
 -- at how many places of the cells below number m u is named
 unfoldable pub sides_below : List ℕ → ℕ → ℕ → ℕ
@@ -33,21 +31,27 @@ pub record Told (l p k s : ℕ) : Type 0 where
   pub wings : p + 2 ≡ l → k ≡ s
   pub few : k ≤ 2
 
--- the counters k after the cells below m, in a table of l levels
-pub record Counted (t k : List ℕ) (l m : ℕ) : Type 0 where
+-- the counters k after the cells below m
+pub record Counted (t k : List ℕ) (m : ℕ) : Type 0 where
   pub room : cells_of t ≤ length k
-  pub each : (u : ℕ) → u < cells_of t → Told l (dim t u) (get_or k u 0) (sides_below t u m)
+  pub each : (u : ℕ) → u < cells_of t → Told (levels_of t) (dim t u) (get_or k u 0) (sides_below t u m)
+
+-- c is the cell that the counters k are to take in next
+pub record IsNext (t : List ℕ) (c : ℕ) (k : List ℕ) : Type 0 where
+  pub valid : Valid t
+  pub inside : c < cells_of t
+  pub counted : Counted t k c
 
 -- a cell one below the largest dimension that is named at three places or more
-pub record Crowded (t : List ℕ) (l : ℕ) : Type 0 where
+pub record Crowded (t : List ℕ) : Type 0 where
   pub cell : ℕ
   pub living : Live t cell
-  pub level : dim t cell + 2 ≡ l
+  pub level : dim t cell + 2 ≡ levels_of t
   pub three : 3 ≤ sides_below t cell (cells_of t)
 
 -- how a count ends that is to take in the cells below m: with the counters k, or at a crowded cell
-abbrev pub CountEnds : List ℕ → List ℕ → ℕ → ℕ → Bool → Type 0
-CountEnds t k l m r = (r ≡ true → Counted t k l m) × (r ≡ false → Crowded t l)
+abbrev pub CountEnds : List ℕ → List ℕ → ℕ → Bool → Type 0
+CountEnds t k m r = (r ≡ true → Counted t k m) × (r ≡ false → Crowded t)
 
 -- whether a cell with word 0 p and k sides passes in a table of l levels: it is free, or of the largest dimension, or a face
 abbrev pub passes : ℕ → ℕ → ℕ → Bool

@@ -3,44 +3,29 @@
 // that is neither an n-cell nor named. In a valid table the cells over an (n−1)-cell are n-cells, so a place of one is a wing.
 #![tactic(auto)]
 
-ghost use Rattle.std.specs.Prelude.{◌≡◌, ◌+◌, ◌<◌};
-ghost use Rattle.table.specs.Kind.{used as used_of};
+ghost use Rattle.std.specs.Prelude.{◌≡◌, ◌≢◌, ◌+◌, ◌≤◌, ◌<◌, length};
+ghost use Rattle.table.specs.Kind.{faces, used as used_of};
 ghost use Rattle.table.specs.Table.{cells_of, dim as dim_of, Valid};
 ghost use Rattle.sheet.specs.Sheet.{is_sheet, sheet_answer};
-ghost use Rattle.sheet.specs.Sides.{level_of, levels_below, FaceAt, Counted, CountEnds, passes as passes_test, all_pass};
+ghost use Rattle.sheet.specs.Sides.{level_of, levels_of, IsNext, Counted, CountEnds, passes as passes_test, all_pass};
 
-use calls::{Refusal, Verdict};
+use calls::Refusal;
 use table::Table;
-
-// What the sheet test says.
-#[derive(Drop)]
-pub enum Judged {
-    Yes,
-    No,
-    NotJudged(Refusal),
-}
 
 // The level of a record with this word 0: one more than the dimension, or 0 for a free record.
 fn level(p: u16) -> u16
     ensures { result ≡ level_of p }
 {
-    if p <= Table::TOP {
-        return p + 1;
-    }
-    0
+    if p <= Table::TOP { p + 1 } else { 0 }
 }
 
 // The levels of the table: one more than the largest live dimension, or 0 where no cell is live.
 fn levels(t: &[u16]) -> u16
-    ensures { result ≡ levels_below t.now (cells_of t.now) }
+    ensures { result ≡ levels_of t.now }
 {
-    let n = Table::room(t);
     let mut l: u16 = 0;
-    for c in 0..n {
-        let q = level(Table::dim(t, c));
-        if q > l {
-            l = q;
-        }
+    for c in 0..Table::room(t) {
+        l = l.max(level(Table::dim(t, c)));
     }
     l
 }
@@ -48,28 +33,20 @@ fn levels(t: &[u16]) -> u16
 // How many places c has.
 fn places(t: &[u16], c: usize) -> usize
     requires { c < cells_of t.now }
-    ensures { result ≡ used_of (dim_of t.now c) }
+    ensures { (result ≡ used_of (dim_of t.now c)) × (result ≤ faces) }
 {
     Table::used(Table::dim(t, c))
 }
 
-// The cell that c names at its place j: it lives, one dimension down.
-fn named(t: &[u16], c: usize, j: usize) -> usize
-    requires { (Valid t.now) × (c < cells_of t.now) × (j < used_of (dim_of t.now c)) }
-    ensures { FaceAt t.now c j result }
-{
-    Table::face(t, c, j) as usize
-}
-
 // Counts the places of c, a cell of the largest dimension: one for the cell that each names. Leaves with no at a third place of one
-// cell. Here and in the next function the levels l are named for the contract alone.
-fn count_wings(t: &[u16], c: usize, l: u16, sides: &mut [u16]) -> bool
-    requires { (Valid t.now) × (c < cells_of t.now) × (Counted t.now sides.old l c) × (dim_of t.now c + 1 ≡ l) }
-    ensures { CountEnds t.now sides.new l (c + 1) result }
+// cell.
+fn count_wings(t: &[u16], c: usize, sides: &mut [u16]) -> bool
+    requires next { IsNext t.now c sides.old }
+    requires highest { dim_of t.now c + 1 ≡ levels_of t.now }
+    ensures { CountEnds t.now sides.new (c + 1) result }
 {
-    let used = places(t, c);
-    for j in 0..used {
-        let u = named(t, c, j);
+    for f in &Table::faces(t, c)[..places(t, c)] {
+        let u = *f as usize;
         if sides[u] >= 2 {
             return false;
         }
@@ -79,36 +56,37 @@ fn count_wings(t: &[u16], c: usize, l: u16, sides: &mut [u16]) -> bool
 }
 
 // Marks every cell that c, a cell of another dimension, names: these are not counted, so no counter is read here.
-fn mark_faces(t: &[u16], c: usize, l: u16, sides: &mut [u16])
-    requires { (Valid t.now) × (c < cells_of t.now) × (Counted t.now sides.old l c) × (dim_of t.now c + 1 ≡ l → ⊥) }
-    ensures { Counted t.now sides.new l (c + 1) }
+fn mark_faces(t: &[u16], c: usize, sides: &mut [u16])
+    requires next { IsNext t.now c sides.old }
+    requires lower { dim_of t.now c + 1 ≢ levels_of t.now }
+    ensures { Counted t.now sides.new (c + 1) }
 {
-    let used = places(t, c);
-    for j in 0..used {
-        let f = named(t, c, j);
-        sides[f] = 1;
+    for f in &Table::faces(t, c)[..places(t, c)] {
+        sides[*f as usize] = 1;
     }
 }
 
 // Takes cell c into the counters of a table of l levels; no at a third wing of one cell.
 fn count_cell(t: &[u16], c: usize, l: u16, sides: &mut [u16]) -> bool
-    requires { (Valid t.now) × (c < cells_of t.now) × (Counted t.now sides.old l c) }
-    ensures { CountEnds t.now sides.new l (c + 1) result }
+    requires next { IsNext t.now c sides.old }
+    requires levels { l ≡ levels_of t.now }
+    ensures { CountEnds t.now sides.new (c + 1) result }
 {
     if Table::dim(t, c) as usize + 1 == l as usize {
-        return count_wings(t, c, l, sides);
+        return count_wings(t, c, sides);
     }
-    mark_faces(t, c, l, sides);
+    mark_faces(t, c, sides);
     true
 }
 
 // Takes every cell into the counters; no where an (n−1)-cell has a third wing.
 fn count_sides(t: &[u16], l: u16, sides: &mut [u16]) -> bool
-    requires { (Valid t.now) × (Counted t.now sides.old l 0) }
-    ensures { CountEnds t.now sides.new l (cells_of t.now) result }
+    requires valid { Valid t.now }
+    requires counted { Counted t.now sides.old 0 }
+    requires levels { l ≡ levels_of t.now }
+    ensures { CountEnds t.now sides.new (cells_of t.now) result }
 {
-    let n = Table::room(t);
-    for c in 0..n {
+    for c in 0..Table::room(t) {
         if !count_cell(t, c, l, sides) {
             return false;
         }
@@ -120,22 +98,15 @@ fn count_sides(t: &[u16], l: u16, sides: &mut [u16]) -> bool
 fn passes(p: u16, l: u16, sides: u16) -> bool
     ensures { result ≡ passes_test p l sides }
 {
-    if p > Table::TOP {
-        return true;
-    }
-    if p + 1 == l {
-        return true;
-    }
-    sides > 0
+    p > Table::TOP || p + 1 == l || sides > 0
 }
 
 // Whether every cell passes.
 fn all_pass(t: &[u16], l: u16, sides: &[u16]) -> bool
-    requires { Counted t.now sides.now l (cells_of t.now) }
+    requires { cells_of t.now ≤ length sides.now }
     ensures { result ≡ all_pass t.now l sides.now }
 {
-    let n = Table::room(t);
-    for c in 0..n {
+    for c in 0..Table::room(t) {
         if !passes(Table::dim(t, c), l, sides[c]) {
             return false;
         }
@@ -152,25 +123,14 @@ fn is_sheet(t: &[u16]) -> bool
     if l == 0 {
         return false;
     }
-    let mut sides: [u16; Table::CAPACITY] = [0; Table::CAPACITY];
-    if !count_sides(t, l, &mut sides) {
-        return false;
-    }
-    all_pass(t, l, &sides)
+    let mut sides = [0; Table::CAPACITY];
+    count_sides(t, l, &mut sides) && all_pass(t, l, &sides)
 }
 
 // Whether the table is a sheet. Refused with 1, 2, in that order.
-pub fn sheet(t: &[u16]) -> Judged
+pub fn sheet(t: &[u16]) -> Result<bool, Refusal>
     ensures { result ≡ sheet_answer t.now }
 {
-    let found = audit::audit(t);
-    match found {
-        Verdict::Accepted => {
-            if is_sheet(t) {
-                return Judged::Yes;
-            }
-            Judged::No
-        }
-        Verdict::Refused(r) => Judged::NotJudged(r),
-    }
+    audit::audit(t)?;
+    Ok(is_sheet(t))
 }

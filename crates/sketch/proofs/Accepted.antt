@@ -7,7 +7,8 @@ use Prim.Native.Nat.{ℕ}
 use borrow.Author.Tests.{not-false}
 use Rattle.table.specs.Table.{cells_of, Sized, Valid, sized}
 use Rattle.audit.specs.Audit.{sound}
-use Rattle.calls.specs.declared.Verdict.TheVariants.{Accepted}
+use Rattle.std.specs.declared.result.Result.TheVariants.{Ok}
+use Prim.{tt}
 use Rattle.calls.proofs.Grounds.{accepted_none_applies}
 use Rattle.table.proofs.Sizes.{sized_is_sized, sized_says}
 use Rattle.audit.proofs.Valid.{sound_is_valid}
@@ -22,7 +23,7 @@ module _ (u f : List ℕ) where
     pub numbers : Numbered (cells_of u) f
     pub table : Valid (described (cells_of u) f)
 
-  pub accepted_says : read_verdict u f ≡ Accepted → Accepts
+  pub accepted_says : read_verdict u f ≡ Ok tt → Accepts
   unfolding read_verdict
   accepted_says e =
       let k = accepted_none_applies (read_grounds u f) e in
@@ -34,6 +35,6 @@ module _ (u f : List ℕ) where
         table = sound_is_valid (described (cells_of u) f) (sized_says (described (cells_of u) f) (described_sized (cells_of u) f s.some s.room)) (not-false (sound (described (cells_of u) f)) k.1.1.1.0);
       }
 
-  pub says_accepted : sized u ≡ true → contents_fit (cells_of u) f ≡ true → numbers_fit (cells_of u) f ≡ true → sound (described (cells_of u) f) ≡ true → read_verdict u f ≡ Accepted
+  pub says_accepted : sized u ≡ true → contents_fit (cells_of u) f ≡ true → numbers_fit (cells_of u) f ≡ true → sound (described (cells_of u) f) ≡ true → read_verdict u f ≡ Ok tt
   unfolding read_verdict
   says_accepted a b c d = rw (a, b, c, d)

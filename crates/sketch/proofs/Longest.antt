@@ -11,7 +11,8 @@ use Rattle.counting.specs.Counting.{how_many}
 use Rattle.counting.proofs.Counting.{how_many_zero, how_many_yes}
 use Rattle.table.specs.Kind.{capacity, top, dimensions}
 use Rattle.table.specs.Table.{cells_of, is_cell, count_of}
-use Rattle.calls.specs.declared.Verdict.TheVariants.{Accepted}
+use Rattle.std.specs.declared.result.Result.TheVariants.{Ok}
+use Prim.{tt}
 use Rattle.sketch.specs.Form.{longest}
 use Rattle.sketch.specs.Written.{file_of}
 use Rattle.sketch.specs.Read.{count_in, described, read_verdict}
@@ -24,7 +25,7 @@ use Rattle.sketch.proofs.Accepted.{accepted_says}
 pub longest_is : longest ≡ 8236
 longest_is = refl
 
-pub accepted_is_short : (t f : List ℕ) → read_verdict t f ≡ Accepted → length f ≤ longest
+pub accepted_is_short : (t f : List ℕ) → read_verdict t f ≡ Ok tt → length f ≤ longest
 accepted_is_short t f e =
     let w = accepted_says t f e in
     let u : List ℕ = described (cells_of t) f in

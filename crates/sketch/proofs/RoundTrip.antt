@@ -15,8 +15,9 @@ use Rattle.table.specs.Table.{cells_of, dim, face, Sized, Valid}
 use Rattle.audit.specs.Audit.{sound}
 use Rattle.calls.specs.Calls.{on_verdict}
 use Rattle.calls.specs.Numbers.{number_of}
-use Rattle.calls.specs.declared.Verdict.{Verdict}
-use Rattle.calls.specs.declared.Verdict.TheVariants.{Accepted}
+use Rattle.calls.specs.Calls.{Verdict}
+use Rattle.std.specs.declared.result.Result.TheVariants.{Ok}
+use Prim.{tt}
 use Rattle.counting.proofs.Cases.{below_or_not}
 use Rattle.table.proofs.Places.{used_says}
 use Rattle.table.proofs.Sizes.{sized_says}
@@ -39,7 +40,7 @@ write_then_read t v = (
 )
 
 -- so a table of its size reads it, whatever its words were
-pub written_accepted : (t u : List ℕ) → Valid t → Sized u → cells_of t ≡ cells_of u → read_verdict u (file_of t) ≡ Accepted
+pub written_accepted : (t u : List ℕ) → Valid t → Sized u → cells_of t ≡ cells_of u → read_verdict u (file_of t) ≡ Ok tt
 written_accepted t u v s e =
     let w = write_then_read t v in
     says_accepted u (file_of t) (sized_says u s) (subst (λ n. contents_fit n (file_of t) ≡ true) e w.0)
@@ -53,16 +54,16 @@ written_read t u v s e =
     ∙ (write_then_read t v).2
 
 -- an accepted file describes a valid table, and rewritten is the same bytes
-pub accepted_valid : (u f : List ℕ) → read_verdict u f ≡ Accepted → Valid (described (cells_of u) f)
+pub accepted_valid : (u f : List ℕ) → read_verdict u f ≡ Ok tt → Valid (described (cells_of u) f)
 accepted_valid u f e = (accepted_says u f e).table
 
-pub read_then_write : (u f : List ℕ) → ((k : ℕ) → get_or f k 0 < 256) → read_verdict u f ≡ Accepted → file_of (described (cells_of u) f) ≡ f
+pub read_then_write : (u f : List ℕ) → ((k : ℕ) → get_or f k 0 < 256) → read_verdict u f ≡ Ok tt → file_of (described (cells_of u) f) ≡ f
 read_then_write u f bytes e =
     let w = accepted_says u f e in
     back_file (cells_of u) f w.numbers bytes w.contents
 
 -- a table has one file, and a file one table
-pub one_file_for_a_table : (u u' f f' : List ℕ) → ((k : ℕ) → get_or f k 0 < 256) → ((k : ℕ) → get_or f' k 0 < 256) → read_verdict u f ≡ Accepted → read_verdict u' f' ≡ Accepted → described (cells_of u) f ≡ described (cells_of u') f' → f ≡ f'
+pub one_file_for_a_table : (u u' f f' : List ℕ) → ((k : ℕ) → get_or f k 0 < 256) → ((k : ℕ) → get_or f' k 0 < 256) → read_verdict u f ≡ Ok tt → read_verdict u' f' ≡ Ok tt → described (cells_of u) f ≡ described (cells_of u') f' → f ≡ f'
 one_file_for_a_table u u' f f' bytes bytes' e e' same =
     sym (read_then_write u f bytes e) ∙ ap file_of same ∙ read_then_write u' f' bytes' e'
 
@@ -72,7 +73,7 @@ one_table_for_a_file t t' v v' e =
     sym (write_then_read t v).2 ∙ ap₂ described n e ∙ (write_then_read t' v').2
 
 -- the reader accepts exactly the files that valid tables of its size are written as
-pub accepted_iff_written : (u f : List ℕ) → ((k : ℕ) → get_or f k 0 < 256) → Sized u → (read_verdict u f ≡ Accepted) ↔ ((t : List ℕ) × Valid t × (cells_of t ≡ cells_of u) × (f ≡ file_of t))
+pub accepted_iff_written : (u f : List ℕ) → ((k : ℕ) → get_or f k 0 < 256) → Sized u → (read_verdict u f ≡ Ok tt) ↔ ((t : List ℕ) × Valid t × (cells_of t ≡ cells_of u) × (f ≡ file_of t))
 accepted_iff_written u f bytes s = (
   λ e. (described (cells_of u) f, accepted_valid u f e, described_cells (cells_of u) f, sym (read_then_write u f bytes e)),
   λ w. ap (read_verdict u) w.3 ∙ written_accepted w.0 u w.1 s w.2,

@@ -9,7 +9,7 @@ use Rattle.audit.specs.Audit.{on_validity}
 use Rattle.calls.specs.Calls.{Ground, verdict, on_verdict}
 use Rattle.calls.specs.Numbers.{number_of}
 use Rattle.calls.specs.declared.Refusal.TheVariants.{BadContents, BadNumber}
-use Rattle.calls.specs.declared.Verdict.{Verdict}
+use Rattle.calls.specs.Calls.{Verdict}
 use Rattle.sketch.specs.Form.{two_at, four_at, contents_size, count_place, offset_place, record_size, face_place, body_start}
 
 -- the number of cells and the count of p-cells that the contents name

@@ -7,7 +7,7 @@ use Rattle.table.specs.Table.{cells_of, dim, face, is_cell, count_of}
 use Rattle.audit.specs.Audit.{grounds}
 use Rattle.calls.specs.Calls.{Ground, verdict}
 use Rattle.calls.specs.declared.Refusal.TheVariants.{NoRoom}
-use Rattle.calls.specs.declared.Verdict.{Verdict}
+use Rattle.calls.specs.Calls.{Verdict}
 use Rattle.sketch.specs.Form.{two, four, pieces, body_start}
 
 -- the record of cell c: its number, then its faces

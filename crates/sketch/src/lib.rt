@@ -25,19 +25,22 @@ fn same_numbers()
     ensures value_3 { LONGEST ≡ longest }
 {}
 
-// The number that two bytes make.
-fn number_of(low: u8, high: u8) -> u16
-    ensures { result ≡ low + high * 256 }
-{
-    low as u16 + high as u16 * 256
-}
-
 // The number in 2 bytes at place i, the low byte first.
+#[tactic(auto, unfolding(crate::specs::Form::two_at))]
 pub fn two_at(file: &[u8], i: usize) -> u16
     requires { i + 2 ≤ length file.now }
     ensures { result ≡ two_at file.now i }
 {
-    number_of(file[i], file[i + 1])
+    u16::from_le_bytes([file[i], file[i + 1]])
+}
+
+// The number in 4 bytes at place i, the low byte first.
+#[tactic(auto, unfolding(crate::specs::Form::four_at))]
+fn four_at(file: &[u8], i: usize) -> u32
+    requires { i + 4 ≤ length file.now }
+    ensures { result ≡ four_at file.now i }
+{
+    u32::from_le_bytes([file[i], file[i + 1], file[i + 2], file[i + 3]])
 }
 
 // The number of cells that the contents name.
@@ -49,6 +52,7 @@ pub fn size_in(file: &[u8]) -> usize
 }
 
 // The count of p-cells that the contents name.
+#[tactic(auto, unfolding(crate::specs::Read::count_in))]
 pub fn count_in(file: &[u8], p: u16) -> u16
     requires { (contents_size ≤ length file.now) × (p < dimensions) }
     ensures { result ≡ count_in file.now p }
@@ -56,13 +60,12 @@ pub fn count_in(file: &[u8], p: u16) -> u16
     two_at(file, 2 + p as usize * ENTRY)
 }
 
-// The offset that the contents give body p: its low two bytes, then those above them.
+// The offset that the contents give body p.
 pub fn offset_in(file: &[u8], p: u16) -> usize
     requires { (contents_size ≤ length file.now) × (p < dimensions) }
     ensures { result ≡ four_at file.now (offset_place p) }
 {
-    let i = 4 + p as usize * ENTRY;
-    two_at(file, i) as usize + two_at(file, i + 2) as usize * 65536
+    four_at(file, 4 + p as usize * ENTRY) as usize
 }
 
 // Where face j stands in a record. A record of j faces ends there.

@@ -1,118 +1,153 @@
-// Standard input read to its end, and standard output written, for the programs: a read or a write that fails is told on standard error,
-// and is never taken for the end of the input or for an answer given. No contract can say which bytes the system hands over or takes;
-// what is proved is where they are put, and what is made of each answer of the system.
+// Standard input read to its end, and what is made of it written to standard output, for the programs: a read or a write that fails is told
+// on standard error, and is never taken for the end of the input or for an answer given. No contract can say which bytes the system hands
+// over or takes; what is proved is where they are put, and what becomes of each of them over any reader and writer whose bytes are known.
 #![tactic(auto)]
 
-ghost use Rattle.std.specs.Prelude.{◌≡◌, ◌≤◌, length, IsTrue};
-ghost use Rattle.std.specs.Io.KnownBytes.{Appends};
+ghost use Rattle.std.specs.Prelude.{◌≡◌, ◌≤◌, ◌<◌, ℕ, length, take, drop, Ok, Some, None, IfOk, OnOk, IsErrOf};
+ghost use Rattle.std.specs.Io.KnownBytes.{Appends, Consumes, IsAtEnd, Keeps};
 ghost use Rattle.stdio.specs.Read.{turn_of, Further, HasRead};
+ghost use Rattle.stdio.specs.Answer.{told, IsMadeOf};
 
-use std::fs::File;
-use std::io::{ErrorKind, Write};
-use std::{fs, io};
+use std::convert::AsSlice;
+use std::fmt;
+use std::fs::{self, File};
+use std::io::{self, ErrorKind, Read, Write};
 
 const OUTPUT: &str = "/dev/stdout";
 
-// What came of reading: so many bytes, up to the end of the input or of the buffer, or a failure.
+// Why there is no answer, or no whole one.
 #[derive(Drop)]
-pub enum Read {
-    Bytes(usize),
-    Failed,
+pub enum Failure {
+    Unread,
+    Unwritten,
 }
 
-// What came of one call of the system: so many bytes more, or reading is over.
-#[derive(Drop)]
-enum Turn {
-    More(usize),
-    Over(Read),
+impl fmt::Display for Failure {
+    ghost output = { λ why. Some (told why) };
+
+    fn fmt<W: fmt::Write>(&self, f: &mut fmt::Formatter<W>) -> fmt::Result {
+        match self {
+            Failure::Unread => write!(f, "standard input could not be read to its end"),
+            Failure::Unwritten => write!(f, "standard output could not be written"),
+        }
+    }
 }
 
-// What a reader's answer means, where `done` bytes are there. An error is every failure, also that of a pipe which does not wait and has
-// nothing yet: whether more would come is not known then, so it is not the end.
-fn meaning(got: io::Result<usize>, done: usize) -> Turn
-    ensures { result ≡ turn_of done got }
+// Standard output, which asks the disk when it is flushed, since it may say only then that it is full.
+#[derive(Drop)]
+struct Output(HostRuntime);
+
+impl Write for Output {
+    fn write(&mut self, bytes: &[u8]) -> io::Result<usize> {
+        self.0.stdout().write(bytes)
+    }
+
+    // Standard output has no call of its own for this, so its file is opened by that name. Only a file can say no: a pipe or a terminal has
+    // no disk to be asked.
+    fn flush(&mut self) -> io::Result<()> {
+        let Ok(about) = fs::metadata(&self.0, OUTPUT) else {
+            return Ok(());
+        };
+        if !about.is_file() {
+            return Ok(());
+        }
+        let Ok(file) = File::open(&self.0, OUTPUT) else {
+            return Ok(());
+        };
+        match file.sync_all() {
+            Err(error) if error.kind() == ErrorKind::InvalidInput => Ok(()),
+            synced => synced,
+        }
+    }
+}
+
+// What a reader's answer means: how many bytes more there are, or none at the end of the input. An error is a failure whatever its kind,
+// also that of a pipe which does not wait and has nothing yet: whether more would come is not known then, so it is not the end.
+#[tactic(auto, unfolding(crate::specs::Read::turn_of))]
+fn turn(got: io::Result<usize>) -> io::Result<Option<usize>>
+    ensures { result ≡ turn_of got }
 {
-    match got {
-        Err(_) => Turn::Over(Read::Failed),
-        Ok(0) => Turn::Over(Read::Bytes(done)),
-        Ok(more) => Turn::More(more),
+    match got? {
+        0 => Ok(None),
+        n => Ok(Some(n)),
     }
 }
 
 // Reads once, behind the bytes that are there.
-fn read_on<R: io::Read>(from: &mut R, buf: &mut [u8], done: usize) -> Turn
+fn read_on<R: Read>(from: &mut R, buf: &mut [u8], done: usize) -> io::Result<Option<usize>>
     requires { done ≤ length buf.old }
-    ensures { Further done result buf.old buf.new }
+    ensures further { Further done result buf.old buf.new }
+    ensures more { (n : ℕ) → result ≡ Ok (Some n) → Consumes (R.remaining from.old) (R.remaining from.new) (take n (drop done buf.new)) }
+    ensures end { result ≡ Ok None → Keeps (R.remaining from.old) (R.remaining from.new) × (done < length buf.old → IsAtEnd (R.remaining from.new)) }
 {
-    let got = from.read(&mut buf[done..]);
-    meaning(got, done)
+    turn(from.read(&mut buf[done..]))
 }
 
 // Reads from a reader, as standard input, until it ends, the buffer is full, or a read fails. A pipe may hand the bytes over in pieces.
 // The bytes lie at the start of the buffer, and of those behind them nothing is said.
-pub fn read_all<R: io::Read>(from: &mut R, buf: &mut [u8]) -> Read
-    ensures { HasRead result buf.old buf.new }
+pub fn read_all<R: Read>(from: &mut R, buf: &mut [u8]) -> io::Result<usize>
+    ensures placed { HasRead result buf.old buf.new }
+    ensures in_order { IfOk result (λ n. Consumes (R.remaining from.old) (R.remaining from.new) (take n buf.new)) }
+    ensures to_the_end { IfOk result (λ n. n < length buf.new → IsAtEnd (R.remaining from.new)) }
 {
     let mut done = 0;
     while done < buf.len() {
-        let next = read_on(from, buf, done);
-        match next {
-            Turn::More(n) => {
-                done += n;
-            }
-            Turn::Over(read) => {
-                return read;
-            }
+        match read_on(from, buf, done)? {
+            Some(n) => done += n,
+            None => break,
         }
     }
-    Read::Bytes(done)
+    Ok(done)
 }
 
-// Writes all of the bytes, or stops at the first write that takes nothing or fails; a part of them may have been written then.
-fn is_written<W: Write>(to: &mut W, bytes: &[u8]) -> bool
-    ensures { IsTrue result → Appends (W.contents to.old) (W.contents to.new) bytes.now }
+// Writes all of the bytes and flushes them, or stops at the first write that takes nothing or fails; a part of them may have been written
+// then. A loop of our own, as the one above: std's would try again after a signal, and here every error is a failure.
+fn write_all<W: Write>(to: &mut W, bytes: &[u8]) -> io::Result<()>
+    ensures whole { OnOk result (Appends (W.contents to.old) (W.contents to.new) bytes.now) }
+    ensures front { (n : ℕ) × Appends (W.contents to.old) (W.contents to.new) (take n bytes.now) }
 {
-    let mut put = 0;
-    while put < bytes.len() {
-        match to.write(&bytes[put..]) {
-            Ok(0) | Err(_) => return false,
-            Ok(n) => put += n,
+    let mut rest = bytes;
+    while !rest.is_empty() {
+        match to.write(rest)? {
+            0 => return Err(io::Error::from(ErrorKind::WriteZero)),
+            n => rest = &rest[n..],
         }
     }
-    true
+    to.flush()
 }
 
-// Writes a line to standard error. Where that fails too, there is nobody left to tell.
-pub fn tell(rt: HostRuntime, line: &[u8]) {
-    is_written(&mut rt.stderr(), line);
+// Reads the input to its end, and writes to the output what is made of it.
+pub fn answer<R: Read, W: Write, T: AsSlice<u8> + Drop, F: FnOnce(&[u8]) -> T>(
+    from: &mut R,
+    to: &mut W,
+    buf: &mut [u8],
+    make: F,
+) -> Result<(), Failure>
+    requires { F.IsAlwaysCallable make }
+    ensures ok { OnOk result ((made : T) × IsMadeOf F.FnOnce make (R.remaining from.old) (R.remaining from.new) (length buf.new) made
+        × Appends (W.contents to.old) (W.contents to.new) (T.items made)) }
+    ensures unread { IsErrOf result Failure.Unread → Keeps (W.contents to.old) (W.contents to.new) }
+    ensures unwritten { IsErrOf result Failure.Unwritten → (made : T) × (n : ℕ)
+        × IsMadeOf F.FnOnce make (R.remaining from.old) (R.remaining from.new) (length buf.new) made
+        × Appends (W.contents to.old) (W.contents to.new) (take n (T.items made)) }
+{
+    let n = read_all(from, buf).map_err(|_| Failure::Unread)?;
+    let made = make(&buf[..n]);
+    write_all(to, made.as_slice()).map_err(|_| Failure::Unwritten)
 }
 
-// Writes all that the program answers to standard output, and asks the disk for it, since it may say only then that it is full. Where
-// either fails, the line goes to standard error; a part of the text may have been written.
-pub fn answer_or_tell(rt: HostRuntime, text: &[u8], line: &[u8]) {
-    if !is_written(&mut rt.stdout(), text) || !is_on_disk(rt) {
-        tell(rt, line);
+// Answers what stands on standard input by what is made of it. The buffer holds what is read, and one byte more than the longest input, so
+// that a longer one is seen to be too long. What fails is told in a line on standard error.
+pub fn run<T: AsSlice<u8> + Drop, F: FnOnce(&[u8]) -> T>(
+    rt: HostRuntime,
+    name: &str,
+    buf: &mut [u8],
+    make: F,
+)
+    requires { F.IsAlwaysCallable make }
+{
+    if let Err(failure) = answer(&mut rt.stdin(), &mut Output(rt), buf, make) {
+        // Where that fails too, there is nobody left to tell.
+        let _ = eprintln!(rt; "{name}: {failure}");
     }
-}
-
-// Whether the disk has what was written to standard output. Only a file can say no: a pipe or a terminal has no disk to be asked.
-fn is_on_disk(rt: HostRuntime) -> bool {
-    match synced(rt) {
-        Ok(()) => true,
-        Err(error) => error.kind() == ErrorKind::InvalidInput,
-    }
-}
-
-// Standard output has no call of its own for this, so its file is opened by that name.
-fn synced(rt: HostRuntime) -> io::Result<()> {
-    let Ok(about) = fs::metadata(&rt, OUTPUT) else {
-        return Ok(());
-    };
-    if !about.is_file() {
-        return Ok(());
-    }
-    let Ok(file) = File::open(&rt, OUTPUT) else {
-        return Ok(());
-    };
-    file.sync_all()
 }

@@ -5,4 +5,4 @@ pub mod Words
 pub mod Empties
 pub mod Stores
 pub mod Dimensions
-pub mod Moves
+pub mod Slices

@@ -30,14 +30,10 @@ pub live_or_not : (t : List ℕ) (c : ℕ) → Live t c ⊎ (Live t c → ⊥)
 live_or_not t c =
     ⊎_elim (λ e. inl (live_true t c e)) (λ e. inr (λ l. false≢true (sym e ∙ live_says t c l))) (true_or_false (live t c))
 
--- the test of a cell, as the code takes it
+-- a number outside the table is no live cell
 pub outside_dead : (t : List ℕ) (c : ℕ) → cells_of t ≤ c → false ≡ live t c
 unfolding live
 outside_dead t c h = rw (le-ltb c (cells_of t) h)
-
-pub inside_live : (t : List ℕ) (c p : ℕ) → c < cells_of t → p ≡ dim t c → leb p top ≡ live t c
-unfolding live
-inside_live t c p h e = simp (lt-ltb c (cells_of t) h, e)
 
 seven : (t : List ℕ) (c j : ℕ) → j < faces → get_or (faces_of t c) j 0 ≡ face t c j
 seven t c zero h = refl

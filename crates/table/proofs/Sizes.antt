@@ -1,11 +1,11 @@
 -- The test of the length says `Sized`. What carries it: the cases of its three parts. Assumes nothing.
 use mathlib.Core.Path.{◌≡◌}
-use mathlib.Core.Bool.{true, false, ◌&&◌}
+use mathlib.Core.Bool.{true, ◌&&◌}
 use mathlib.Core.List.{List}
-use Prim.Native.Nat.{ℕ, ◌%◌, ◌≤◌, ◌<◌}
+use Prim.Native.Nat.{ℕ, ◌%◌}
 use native.Mathlib.Omega.{arith}
 use native.Mathlib.Nat.{div-add-mod'}
-use borrow.Author.Tests.{eq-eqb, ne_eqb, le-leb, lt-leb, eqb-true, leb-true}
+use borrow.Author.Tests.{eq-eqb, le-leb, eqb-true, leb-true}
 use lib.ListN.{length}
 use lib.Dec.{leb, eqb}
 use Rattle.counting.proofs.Cases.{and_left, and_right}
@@ -26,18 +26,3 @@ pub sized_says : (t : List ℕ) → Sized t → sized t ≡ true
 unfolding sized
 sized_says t s =
     simp (eq-eqb (length t % width) 0 (omega (arith, s.whole)), le-leb 1 (cells_of t) s.some, le-leb (cells_of t) capacity s.room)
-
--- the test as the code takes it: not whole records, no record, and whole ones, whose number decides
-module _ (t : List ℕ) where
-  pub not_whole : (length t % width ≡ 0 → ⊥) → false ≡ sized t
-  unfolding sized
-  not_whole ne = simp (ne_eqb (length t % width) 0 ne)
-
-  module _ (whole : length t % width ≡ 0) where
-    pub no_record : cells_of t < 1 → false ≡ sized t
-    unfolding sized
-    no_record h = simp (eq-eqb (length t % width) 0 whole, lt-leb 1 (cells_of t) h)
-
-    pub some_records : (n : ℕ) → n ≡ cells_of t → 1 ≤ n → leb n capacity ≡ sized t
-    unfolding sized
-    some_records n e h = simp (eq-eqb (length t % width) 0 whole, le-leb 1 (cells_of t) (omega arith), e)

@@ -1,18 +1,17 @@
--- Laws of a record that is written: one word stored, a record written twice, and what a table that was given record by record becomes.
--- What carries them: the places of two words differ where their records or their places in a record differ. Assumes nothing.
+-- Laws of a record that is written: a record written twice, its faces written one after the other, and what a table that was given record
+-- by record becomes. Assumes nothing.
 use mathlib.Core.Path.{◌≡◌, refl, sym, ap, ◌∙◌}
 use mathlib.Core.List.{List}
 use mathlib.Core.Logic.{⊎_elim}
-use Prim.Native.Nat.{ℕ, ◌+◌, ◌*◌, ◌≤◌, ◌<◌}
+use Prim.Native.Nat.{ℕ, ◌+◌, ◌<◌}
 use native.Mathlib.Omega.{arith}
 use borrow.Author.Tests.{eq-eqb, ne_eqb, lt-ltb, le-ltb}
 use lib.Dec.{eqb, ltb}
-use lib.ListN.{length, set, length-set}
-use lib.Seq.{get_or-set_same, get_or-set_other}
+use lib.ListN.{length}
 use Rattle.counting.specs.Counting.{pick}
 use Rattle.counting.proofs.Cases.{below_or_not, same_or_other}
-use Rattle.table.specs.Kind.{faces, width}
-use Rattle.table.specs.Table.{cells_of, dim, face}
+use Rattle.table.specs.Kind.{faces}
+use Rattle.table.specs.Table.{dim, face}
 use Rattle.table.specs.Records.{Record, record_at, table_of, Alike, Stored}
 use Rattle.table.proofs.Words.{length_table_of, record_table_of, table_by_records}
 
@@ -36,29 +35,6 @@ alike_in t u c e = record { same_dim = ap (λ (l : List ℕ). dim l c) e; same_f
 -- record c with x at face place j
 abbrev pub with_face : List ℕ → ℕ → ℕ → ℕ → Record
 with_face t c j x = record { dim = dim t c; face = λ l. pick (eqb l j) x (face t c l) }
-
-module _ (t : List ℕ) (c j x : ℕ) (inside : c < cells_of t) (place : j < faces) where
-  abbrev at : ℕ
-  at = c * width + (1 + j)
-
-  face_there : (l : ℕ) → l < faces → face (set t at x) c l ≡ (with_face t c j x).face l
-  face_there l h =
-      same_or_other (λ k. face (set t at x) c k ≡ (with_face t c j x).face k) l j
-      (get_or-set_same t at x 0 (omega arith) ∙ sym (rw (eq-eqb j j refl)))
-      (λ ne. get_or-set_other t at (c * width + (1 + l)) x 0 (λ e. ne (omega arith)) ∙ sym (rw (ne_eqb l j ne)))
-
-  -- face j of record c
-  pub face_stored : Stored c (with_face t c j x) t (set t at x)
-  face_stored =
-      record {
-        size = length-set t at x;
-        here = record { same_dim = get_or-set_other t at (c * width) x 0 (λ e. omega arith); same_face = face_there };
-        else = λ s ne.
-            record {
-              same_dim = get_or-set_other t at (s * width) x 0 (λ e. ne (omega arith));
-              same_face = λ l h. get_or-set_other t at (s * width + (1 + l)) x 0 (λ e. ne (omega arith));
-            };
-      }
 
 -- a record is what was written last
 stored_again : {c : ℕ} {r s : Record} {t u v : List ℕ} → Stored c r t u → Stored c s u v → Stored c s t v
@@ -102,26 +78,6 @@ module _ (c : ℕ) (f : ℕ → ℕ) (t : List ℕ) where
           same_or_other (λ k. (with_face u c j x).face k ≡ up_to (j + 1) f (face t c) k) l j
           (simp (eq-eqb j j refl, lt-ltb j (j + 1) (omega arith), e))
           (λ ne. rw (ne_eqb l j ne) (s.here.same_face l h ∙ kept l ne))
-
-  pub faced_all : (u : List ℕ) (j : ℕ) → faces ≤ j → Faced j u → Stored c (record { dim = dim t c; face = f }) t u
-  faced_all u j m s = stored_alike (record { same_dim = refl; same_face = λ l h. rw (lt-ltb l j (omega arith)) }) s
-
--- the dimension written: the faces stay
-pub dim_stored : (t u : List ℕ) (c p : ℕ) (r : Record) → c < cells_of t → Stored c r t u → Stored c (record { dim = p; face = r.face }) t (set u (c * width) p)
-dim_stored t u c p r inside s =
-    record {
-      size = length-set u (c * width) p ∙ s.size;
-      here =
-          record {
-            same_dim = get_or-set_same u (c * width) p 0 (omega (arith, s.size));
-            same_face = λ l h. get_or-set_other u (c * width) (c * width + (1 + l)) p 0 (λ e. omega arith) ∙ s.here.same_face l h;
-          };
-      else = λ d ne.
-          record {
-            same_dim = get_or-set_other u (c * width) (d * width) p 0 (λ e. ne (omega arith)) ∙ (s.else d ne).same_dim;
-            same_face = λ l h. get_or-set_other u (c * width) (d * width + (1 + l)) p 0 (λ e. omega arith) ∙ (s.else d ne).same_face l h;
-          };
-    }
 
 -- A table that was given record by record, after a store: given so again, with the new record.
 pub stored_table :

@@ -1,4 +1,3 @@
 pub mod Kind
 pub mod Table
 pub mod Records
-pub mod Moves

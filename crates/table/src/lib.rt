@@ -3,12 +3,26 @@
 // the crates above, which show what each one asks; no public call is here.
 #![tactic(auto)]
 
-ghost use Rattle.std.specs.Prelude.{◌≡◌, ◌+◌, ◌*◌, ◌≤◌, ◌<◌, length, get_or, eqb};
+ghost use Rattle.std.specs.Prelude.{◌≡◌, ◌+◌, ◌*◌, ◌≤◌, ◌<◌, length, get_or, replicate, eqb};
 ghost use Rattle.counting.specs.Counting.{pick, how_many, listed};
 ghost use Rattle.table.specs.Kind.{capacity, top, dimensions, faces, width, free_mark, used};
 ghost use Rattle.table.specs.Table.{cells_of, dim as dim_of, face as face_of, faces_of, sized, live as live_in, is_cell};
-ghost use Rattle.table.specs.Records.{Record, Stored, ShiftedUp};
-ghost use Rattle.table.specs.Moves.{MovedUp};
+ghost use Rattle.table.specs.Records.{Stored, ShiftedUp};
+
+// A record by value: its dimension or the free mark, and the seven face words. Records are ordered as their words are, the dimension
+// first.
+#[derive(Clone, Copy, PartialEq, Eq, PartialOrd, Ord)]
+pub struct Record {
+    pub dim: u16,
+    pub faces: [u16; Table::FACES],
+}
+
+impl Record {
+    pub const FREE: Record = Record {
+        dim: Table::FREE,
+        faces: [Table::FREE; Table::FACES],
+    };
+}
 
 // The table kind. It holds nothing: a table is the lent words.
 #[derive(Drop)]
@@ -28,17 +42,12 @@ impl Table {
     pub const WORDS: usize = Table::FACES + 1;
 
     // Whether so many words are a table's: those of 1 to 512 whole records.
+    #[tactic(auto, unfolding(crate::specs::Table::sized))]
     pub fn fits(t: &[u16]) -> bool
         ensures { result ≡ sized t.now }
     {
         let n = Table::room(t);
-        if t.len() % Table::WORDS != 0 {
-            return false;
-        }
-        if n < 1 {
-            return false;
-        }
-        n <= Table::CAPACITY
+        t.len() % Table::WORDS == 0 && 1 <= n && n <= Table::CAPACITY
     }
 
     // How many records the words hold, whether their number is that of a table or not.
@@ -52,13 +61,10 @@ impl Table {
     pub fn used(p: u16) -> usize
         ensures { (result ≡ used p) × (result ≤ faces) }
     {
-        if p == 0 {
-            return 0;
+        match p {
+            1..=Table::TOP => p as usize + 1,
+            _ => 0,
         }
-        if p <= Table::TOP {
-            return (p as usize) + 1;
-        }
-        0
     }
 
     // Word 0 of record c: its dimension, or the free mark.
@@ -94,14 +100,23 @@ impl Table {
         ]
     }
 
+    // Record c, by value.
+    pub fn record(t: &[u16], c: usize) -> Record
+        requires { c < cells_of t.now }
+        ensures { (result.dim ≡ dim_of t.now c) × (result.faces ≡ faces_of t.now c) }
+    {
+        Record {
+            dim: Table::dim(t, c),
+            faces: Table::faces(t, c),
+        }
+    }
+
     // Whether c is a live cell.
+    #[tactic(auto, unfolding(crate::specs::Table::live))]
     pub fn live(t: &[u16], c: usize) -> bool
         ensures { result ≡ live_in t.now c }
     {
-        if c < Table::room(t) {
-            return Table::dim(t, c) <= Table::TOP;
-        }
-        false
+        c < Table::room(t) && Table::dim(t, c) <= Table::TOP
     }
 
     // How many live cells there are of each dimension, in one pass.
@@ -109,9 +124,8 @@ impl Table {
         requires { cells_of t.now ≤ capacity }
         ensures { result ≡ listed dimensions (λ p. how_many (is_cell t.now p) (cells_of t.now)) }
     {
-        let n = Table::room(t);
         let mut counts = [0; Table::DIMENSIONS];
-        for c in 0..n {
+        for c in 0..Table::room(t) {
             let p = Table::dim(t, c) as usize;
             if p < Table::DIMENSIONS {
                 counts[p] += 1;
@@ -134,21 +148,19 @@ impl Table {
         requires { c < cells_of t.old }
         ensures { Stored c (record { dim = dim_of t.old c; face = λ j. get_or f j 0 }) t.old t.new }
     {
-        let mut j = 0;
-        while j < Table::FACES {
-            Table::put_face(t, c, j, f[j]);
-            j += 1;
+        for (j, x) in f.iter().enumerate() {
+            Table::put_face(t, c, j, *x);
         }
     }
 
-    // Writes the dimension p and the seven face words f into record c, and nothing else.
-    pub fn put(t: &mut [u16], c: usize, p: u16, f: [u16; Table::FACES])
+    // Writes r as record c, and nothing else.
+    pub fn put(t: &mut [u16], c: usize, r: Record)
         requires { c < cells_of t.old }
-        ensures { Stored c (record { dim = p; face = λ j. get_or f j 0 }) t.old t.new }
+        ensures { Stored c (record { dim = r.dim; face = λ j. get_or r.faces j 0 }) t.old t.new }
     {
-        Table::put_faces(t, c, f);
+        Table::put_faces(t, c, r.faces);
         let at = c * Table::WORDS;
-        t[at] = p;
+        t[at] = r.dim;
     }
 
     // Moves records k to m − 1 up by one. Record k stays as it was.
@@ -158,20 +170,7 @@ impl Table {
     {
         let start = k * Table::WORDS;
         let n = (m - k) * Table::WORDS;
-        move_words(&mut t[start..], n);
-    }
-}
-
-// Moves the first n words of a part up by one record, the last first, since the places overlap. It is one plain loop over words in a
-// function of its own, with a distance that is known: compilers know such a loop as one move of memory.
-fn move_words(part: &mut [u16], n: usize)
-    requires { n + width ≤ length part.old }
-    ensures { MovedUp n part.old part.new }
-{
-    let mut i = n;
-    while i > 0 {
-        i -= 1;
-        part[i + Table::WORDS] = part[i];
+        t[start..].copy_within(..n, Table::WORDS);
     }
 }
 
@@ -183,4 +182,6 @@ fn same_numbers()
     ensures faces_value { Table.FACES ≡ faces }
     ensures width_value { Table.WORDS ≡ width }
     ensures free_mark_value { Table.FREE ≡ free_mark }
+    ensures free_dim_value { Record.FREE.dim ≡ free_mark }
+    ensures free_faces_value { Record.FREE.faces ≡ replicate faces free_mark }
 {}

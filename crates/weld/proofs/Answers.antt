@@ -8,9 +8,9 @@ use borrow.Author.Tests.{eq-eqb, ne_eqb}
 use Rattle.table.specs.Table.{dim, Valid}
 use Rattle.calls.specs.Calls.{verdict, named, leaves, Ends}
 use Rattle.calls.specs.declared.Refusal.{Refusal}
-use Rattle.calls.specs.declared.Verdict.{Verdict}
-use Rattle.calls.specs.declared.Verdict.TheVariants.{Accepted, Refused}
-use Rattle.calls.specs.declared.Named.TheVariants.{Cell, NoCell}
+use Rattle.calls.specs.Calls.{Verdict}
+use Rattle.std.specs.declared.result.Result.TheVariants.{Ok, Err}
+use Prim.{tt}
 use Rattle.table.proofs.Records.{live_says}
 use Rattle.audit.proofs.Valid.{valid_is_sound, valid_is_sized}
 use Rattle.merge.specs.Rename.{renamed}
@@ -24,12 +24,12 @@ use Rattle.weld.proofs.Welds.{weld_map_is_weld, weld_keeps_valid, one_welded_tab
 use Rattle.weld.proofs.Single.{weld_by_merges}
 
 module _ (t : List ℕ) (a b : ℕ) where
-  pub weld_accepted : weld_verdict t a b ≡ Accepted → Joinable t a b
+  pub weld_accepted : weld_verdict t a b ≡ Ok tt → Joinable t a b
   unfolding weld_verdict
   weld_accepted e = joinable_accepted t a b [] e
 
   -- any two different live cells of one dimension in a valid table: their faces are not asked for
-  pub joinable_accepts : Joinable t a b → weld_verdict t a b ≡ Accepted
+  pub joinable_accepts : Joinable t a b → weld_verdict t a b ≡ Ok tt
   unfolding weld_verdict
   joinable_accepts m =
       let lives = live_says t a m.first in
@@ -44,21 +44,21 @@ module _ (t : List ℕ) (a b : ℕ) where
   verdict_is = refl
 
   -- the ways out of the call
-  pub ends_refused : (r : Refusal) → weld_verdict t a b ≡ Refused r → Ends (weld_answer t a b) (weld_leaves t a b) (NoCell r) t
+  pub ends_refused : (r : Refusal) → weld_verdict t a b ≡ Err r → Ends (weld_answer t a b) (weld_leaves t a b) (Err r) t
   ends_refused r e =
       record { answer = sym (ap (λ v. named v (min a b)) e); left = sym (ap (λ v. leaves v (welded t a b) t) e) }
 
   pub ends_accepted :
-      (c : ℕ) (u : List ℕ) → weld_verdict t a b ≡ Accepted → c ≡ min a b → u ≡ renamed (weld_map t a b) t →
-      Ends (weld_answer t a b) (weld_leaves t a b) (Cell c) u
+      (c : ℕ) (u : List ℕ) → weld_verdict t a b ≡ Ok tt → c ≡ min a b → u ≡ renamed (weld_map t a b) t →
+      Ends (weld_answer t a b) (weld_leaves t a b) (Ok c) u
   unfolding welded
   ends_accepted c u e m f =
       record {
-        answer = ap Cell m ∙ sym (ap (λ v. named v (min a b)) e);
+        answer = ap Ok m ∙ sym (ap (λ v. named v (min a b)) e);
         left = f ∙ sym (ap (λ v. leaves v (renamed (weld_map t a b) t) t) e);
       }
 
-  module _ (e : weld_verdict t a b ≡ Accepted) where
+  module _ (e : weld_verdict t a b ≡ Ok tt) where
     -- the map is the weld's
     accepted_weld : IsWeld t a b (weld_map t a b)
     accepted_weld = let m = weld_accepted e in weld_map_is_weld t a b m.valid m.first m.second m.same_dim
@@ -87,5 +87,5 @@ module _ (t : List ℕ) (a b : ℕ) where
   weld_leaves_valid valid = go (weld_verdict t a b) refl
     where
       go : (v : Verdict) → weld_verdict t a b ≡ v → Valid (leaves v (welded t a b) t)
-      go Accepted e = welded_is_valid e
-      go (Refused r) e = valid
+      go (Ok tt) e = welded_is_valid e
+      go (Err r) e = valid

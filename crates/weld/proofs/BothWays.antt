@@ -7,8 +7,9 @@ use Prim.Native.Nat.{ℕ}
 use native.Mathlib.Nat.{min_comm}
 use Rattle.table.specs.Table.{dim, live, Live}
 use Rattle.calls.specs.Calls.{named, leaves}
-use Rattle.calls.specs.declared.Verdict.{Verdict}
-use Rattle.calls.specs.declared.Verdict.TheVariants.{Accepted, Refused}
+use Rattle.calls.specs.Calls.{Verdict}
+use Rattle.std.specs.declared.result.Result.TheVariants.{Ok, Err}
+use Prim.{tt}
 use Rattle.merge.proofs.Answers.{eqb_both_ways}
 use Rattle.weld.specs.Weld.{IsWeld}
 use Rattle.weld.specs.Call.{weld_verdict, welded, weld_answer, weld_leaves}
@@ -34,7 +35,7 @@ module _ (t : List ℕ) (a b : ℕ) where
   pub weld_answer_same_both_ways : weld_answer t a b ≡ weld_answer t b a
   weld_answer_same_both_ways = ap₂ named verdict_both_ways (min_comm a b)
 
-  welded_both_ways : weld_verdict t a b ≡ Accepted → welded t a b ≡ welded t b a
+  welded_both_ways : weld_verdict t a b ≡ Ok tt → welded t a b ≡ welded t b a
   welded_both_ways e =
       let m = weld_accepted t a b e in
       let w = weld_exists t a b e in
@@ -46,5 +47,5 @@ module _ (t : List ℕ) (a b : ℕ) where
       go (weld_verdict t a b) refl ∙ ap (λ v. leaves v (welded t b a) t) verdict_both_ways
     where
       go : (v : Verdict) → weld_verdict t a b ≡ v → leaves (weld_verdict t a b) (welded t a b) t ≡ leaves (weld_verdict t a b) (welded t b a) t
-      go Accepted e = ap (λ u. leaves (weld_verdict t a b) u t) (welded_both_ways e)
-      go (Refused r) e = ap (λ v. leaves v (welded t a b) t) e ∙ sym (ap (λ v. leaves v (welded t b a) t) e)
+      go (Ok tt) e = ap (λ u. leaves (weld_verdict t a b) u t) (welded_both_ways e)
+      go (Err r) e = ap (λ v. leaves v (welded t a b) t) e ∙ sym (ap (λ v. leaves v (welded t b a) t) e)

@@ -8,7 +8,8 @@ use native.Mathlib.Omega.{arith}
 use Rattle.table.specs.Table.{dim, face, Live}
 use Rattle.table.proofs.Places.{used_fits}
 use Rattle.calls.specs.Calls.{named, leaves}
-use Rattle.calls.specs.declared.Verdict.TheVariants.{Accepted}
+use Rattle.std.specs.declared.result.Result.TheVariants.{Ok}
+use Prim.{tt}
 use Rattle.merge.specs.Rename.{identify}
 use Rattle.merge.specs.Merge.{merge_verdict, merged, merge_answer, merge_leaves}
 use Rattle.merge.proofs.Identifying.{identify_way, identify_first, identify_second, identify_down}
@@ -89,8 +90,8 @@ module _ (t : List ℕ) (a b : ℕ) (m : Mergeable t a b) where
       stays c n (inr (inr w)) = absurd (n (subst (Live t) (sym w.1) m.pair.first))
 
 -- where a merge is accepted
-module _ (t : List ℕ) (a b : ℕ) (e : merge_verdict t a b ≡ Accepted) where
-  merge_accepted_weld_accepted : weld_verdict t a b ≡ Accepted
+module _ (t : List ℕ) (a b : ℕ) (e : merge_verdict t a b ≡ Ok tt) where
+  merge_accepted_weld_accepted : weld_verdict t a b ≡ Ok tt
   merge_accepted_weld_accepted = joinable_accepts t a b (merge_accepted t a b e).pair
 
   welded_is_merged : welded t a b ≡ merged t a b

@@ -1,42 +1,22 @@
--- One pass that sends a number to another, turn by turn; and that it joins two classes of the map that the words hold.
--- What carries it: below the turn's word the pass is done, from it on nothing has changed. Assumes nothing.
-use mathlib.Core.Path.{◌≡◌, refl, ap, ap₂, sym, subst, ◌∙◌, fun_ext}
+-- The map that words hold, at a number inside and past it; and that words sent on hold the map with two classes joined.
+-- What carries it: where the smaller number is kept for the larger, the words are sent as their identification sends them. Assumes nothing.
+use mathlib.Core.Path.{◌≡◌, ap, ap₂, sym, subst, ◌∙◌, fun_ext}
 use mathlib.Core.Bool.{Bool, true, false}
 use mathlib.Core.List.{List}
 use mathlib.Core.Logic.{⊎_elim}
-use Prim.Native.Nat.{ℕ, ◌+◌, ◌≤◌, ◌<◌, min, max}
+use Prim.Native.Nat.{ℕ, ◌≤◌, ◌<◌, min, max}
 use native.Mathlib.Omega.{arith}
 use borrow.Author.Tests.{lt-ltb, le-ltb}
-use lib.ListN.{length, get_or, set, length-set}
-use lib.Seq.{get_or-set_same, get_or-set_other}
+use lib.ListN.{get_or}
 use lib.Dec.{eqb}
 use Rattle.counting.specs.Counting.{pick}
-use Rattle.counting.proofs.Cases.{below_or_not, same_or_other}
+use Rattle.counting.proofs.Cases.{below_or_not}
 use Rattle.merge.specs.Rename.{identify}
 use Rattle.merge.specs.Writing.{sent}
 use Rattle.merge.proofs.Renaming.{identify_keeps}
 use Rattle.merge.proofs.Identifying.{identify_itself}
 use Rattle.weld.specs.Joins.{joined}
 use Rattle.weld.specs.Maps.{map_of, Maps, Becomes, Sent}
-
-pub sent_starts : (kept gone : ℕ) (k : List ℕ) → Sent kept gone 0 k k
-sent_starts kept gone k = record { size = refl; done = λ d h. absurd (omega arith); left = λ d h. refl }
-
-module _ (kept gone c : ℕ) (k₀ k : List ℕ) (s : Sent kept gone c k₀ k) where
-  -- one word more is written
-  pub sent_more : (x : ℕ) → c < length k → x ≡ sent kept gone (get_or k c 0) → Sent kept gone (c + 1) k₀ (set k c x)
-  sent_more x h e =
-      record {
-        size = length-set k c x ∙ s.size;
-        done = λ d l.
-            same_or_other (λ i. get_or (set k c x) i 0 ≡ sent kept gone (get_or k₀ i 0)) d c
-            (get_or-set_same k c x 0 h ∙ e ∙ ap (sent kept gone) (s.left c (omega arith)))
-            (λ n. get_or-set_other k c d x 0 n ∙ s.done d (omega (arith, n)));
-        left = λ d l. get_or-set_other k c d x 0 (λ q. omega arith) ∙ s.left d (omega arith);
-      }
-
-  pub sent_all : (n : ℕ) → c ≡ n → Sent kept gone n k₀ k
-  sent_all n e = subst (λ z. Sent kept gone z k₀ k) e s
 
 pub map_inside : (n : ℕ) (k : List ℕ) (c : ℕ) → c < n → map_of n k c ≡ get_or k c 0
 unfolding map_of
@@ -93,7 +73,7 @@ module _ (n : ℕ) (k : List ℕ) (m : Maps n k) (x y : ℕ) (hx : x < n) (hy : 
         record {
           maps =
               record {
-                size = omega (arith, s.size, m.size);
+                size = s.size ∙ m.size;
                 small = λ c h. subst (λ z. z < n) (sym (s.done c h)) (smaller (eqb (get_or k c 0) gone) (get_or k c 0) (m.small c h));
               };
           map = fun_ext (λ c. ⊎_elim (at_cell c) (at_other c) (below_or_not c n));

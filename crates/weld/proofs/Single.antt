@@ -12,7 +12,8 @@ use lib.Dec.{ltb, eqb}
 use Rattle.counting.specs.Counting.{pick}
 use Rattle.table.specs.Kind.{capacity, dimensions, faces, free_mark, used}
 use Rattle.table.specs.Table.{cells_of, dim, face, Live, Valid, is_cell}
-use Rattle.calls.specs.declared.Verdict.TheVariants.{Accepted}
+use Rattle.std.specs.declared.result.Result.TheVariants.{Ok}
+use Prim.{tt}
 use Rattle.counting.proofs.Cases.{below_or_not, same_or_not, and_left, and_right}
 use Rattle.table.proofs.Dimensions.{cell_live, cell_dim, cell_says}
 use Rattle.merge.specs.Rename.{renamed, identify}
@@ -158,7 +159,7 @@ module _ (t : List ℕ) (κ : ℕ → ℕ) (valid : Valid t) (k : Carries κ t)
               face_fixed so_far t (κ c) j i h kept_there ∙ same_words_lem j h ∙ sym (face_fixed so_far t c j l.inside h still_there);
         }
 
-    accepted : merge_verdict (renamed so_far t) (κ c) c ≡ Accepted
+    accepted : merge_verdict (renamed so_far t) (κ c) c ≡ Ok tt
     accepted =
         let m = mergeable in
         equal_lists_accepted (renamed so_far t) (κ c) c m.pair.valid m.pair.first m.pair.second m.pair.different m.pair.same_dim

@@ -10,7 +10,7 @@ use Rattle.table.specs.Table.{live, sized, is_cell}
 use Rattle.table.specs.Records.{word_of, table_of}
 use Rattle.counting.specs.Counting.{listed, all}
 use Rattle.audit.specs.Audit.{scan, record_sound, face_sound, law_sound, record_breach, face_breach, law_breach, cell_breach, first_breach, sound}
-use Rattle.calls.specs.declared.Named.TheVariants.{Cell}
+use Rattle.std.specs.declared.result.Result.TheVariants.{Ok}
 use Rattle.merge.specs.Rename.{renamed, identify}
 use Rattle.weld.specs.Joins.{joined, join_places, join_cell, join_cells, join_levels, weld_map}
 use Rattle.weld.specs.Call.{weld_verdict, welded, weld_answer, weld_leaves}
@@ -30,7 +30,7 @@ before = point ++ point ++ edge 1 0 ++ edge 0 1
 abbrev triangle : ℕ → ℕ → ℕ → List ℕ
 triangle a b c = 2 ∷ a ∷ b ∷ c ∷ free_mark ∷ free_mark ∷ free_mark ∷ free_mark ∷ []
 
-pub turned_edges_answer : weld_answer before 3 2 ≡ Cell 2
+pub turned_edges_answer : weld_answer before 3 2 ≡ Ok 2
 unfolding weld_verdict live all scan record_sound face_sound law_sound record_breach face_breach law_breach cell_breach first_breach sized sound
 turned_edges_answer = refl
 

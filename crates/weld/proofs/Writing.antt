@@ -10,7 +10,7 @@ use borrow.Author.Tests.{eq-eqb, ne_eqb, lt-ltb, le-ltb}
 use lib.ListN.{length, get_or}
 use lib.Dec.{ltb, eqb}
 use Rattle.counting.specs.Counting.{pick}
-use Rattle.table.specs.Kind.{top, faces, width, free_mark, used}
+use Rattle.table.specs.Kind.{faces, width, free_mark, used}
 use Rattle.table.specs.Table.{cells_of, dim, face, Sized, Live, Valid}
 use Rattle.table.specs.Records.{Record, record_at, table_of, free_record, Alike, Stored}
 use Rattle.counting.proofs.Cases.{below_or_not}
@@ -23,7 +23,7 @@ use Rattle.weld.proofs.Sending.{map_inside, map_outside}
 
 -- every word its own number
 pub own_all :
-    (n c : ℕ) (k₀ k : List ℕ) → n ≤ length k → n ≤ c → ((d : ℕ) → d < c → get_or k d 0 ≡ d) → Becomes n (λ κ d. d) k₀ k
+    (n c : ℕ) (k₀ k : List ℕ) → length k ≡ n → n ≤ c → ((d : ℕ) → d < c → get_or k d 0 ≡ d) → Becomes n (λ κ d. d) k₀ k
 own_all n c k₀ k h l done =
     record {
       maps = record { size = h; small = λ d m. omega (arith, done d (omega arith)) };
@@ -59,10 +59,6 @@ module _ (t k : List ℕ) (c : ℕ) (r : Renamable t k c) where
   face_waits : (u : List ℕ) (j : ℕ) → j < faces → Faced c images t j u → face u c j ≡ face t c j
   face_waits u j h s = s.here.same_face j h ∙ ap (λ b. pick b (images j) (face t c j)) (le-ltb j j (omega arith))
 
-  pub face_held : (u : List ℕ) (j f : ℕ) → j < used (dim t c) → Faced c images t j u → f ≡ face u c j → f < length k
-  face_held u j f h s e =
-      omega (arith, e, face_waits u j (omega (arith, used_fits (dim t c))) s, r.cells j h, r.held)
-
   pub image_is :
       (u : List ℕ) (j f x : ℕ) → j < used (dim t c) → Faced c images t j u → f ≡ face u c j → x ≡ get_or k f 0 → x ≡ images j
   image_is u j f x h s e i =
@@ -79,14 +75,6 @@ module _ (t k : List ℕ) (c : ℕ) (r : Renamable t k c) where
           (λ q. ap (λ b. pick b (images l) (face t c l)) (lt-ltb l j q))
           (λ q. ap (λ b. pick b (images l) (face t c l)) (le-ltb l j q) ∙ mark_stays l (omega arith) h)
           (below_or_not l j)
-
--- a record of no dimension, and a point, use no face
-pub none_used : (p : ℕ) → (1 ≤ p → top < p) → used p ≡ 0
-none_used p h =
-    ⊎_elim
-    (λ q. let u = used_says p 0 q in absurd (omega (arith, u.1, h u.0)))
-    (λ q. omega arith)
-    (below_or_not 0 (used p))
 
 -- ---- all records
 

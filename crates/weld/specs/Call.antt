@@ -3,8 +3,8 @@
 use Rattle.std.specs.Prelude.{List, ℕ, min}
 use Rattle.audit.specs.Audit.{grounds}
 use Rattle.calls.specs.Calls.{Ground, verdict, named, leaves}
-use Rattle.calls.specs.declared.Verdict.{Verdict}
-use Rattle.calls.specs.declared.Named.{Named}
+use Rattle.calls.specs.Calls.{Verdict}
+use Rattle.calls.specs.Calls.{Named}
 use Rattle.merge.specs.Rename.{renamed}
 use Rattle.merge.specs.Merge.{pair_grounds}
 use Rattle.weld.specs.Joins.{weld_map}

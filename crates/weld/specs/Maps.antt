@@ -15,9 +15,9 @@ map_of n k c = pick (ltb c n) (get_or k c 0) c
 abbrev pub held_by : List ℕ → List ℕ → ℕ → ℕ
 held_by k t = map_of (cells_of t) k
 
--- the words below n are there, and are numbers below n
+-- n words, which are numbers below n
 pub record Maps (n : ℕ) (k : List ℕ) : Type 0 where
-  pub size : n ≤ length k
+  pub size : length k ≡ n
   pub small : (c : ℕ) → c < n → get_or k c 0 < n
 
 -- live cells go to live cells of their dimension

@@ -5,7 +5,8 @@ use Rattle.std.specs.Prelude.{◌≡◌, ◌&&◌, not, List, [], ◌∷◌, ◌
 use Rattle.counting.specs.Counting.{pick}
 use Rattle.table.specs.Kind.{dimensions}
 use Rattle.table.specs.Table.{cells_of, is_cell}
-use Rattle.calls.specs.declared.Verdict.TheVariants.{Accepted}
+use Rattle.std.specs.declared.result.Result.TheVariants.{Ok}
+use Prim.{tt}
 use Rattle.merge.specs.Merge.{merge_verdict, merged}
 
 -- two cells to be merged
@@ -17,7 +18,7 @@ pub record Pair : Type 0 where
 pub data Merges : List ℕ → List Pair → List ℕ → Type 0 where
   done : {t : List ℕ} → Merges t [] t
   more :
-      {t u : List ℕ} {p : Pair} {ps : List Pair} → merge_verdict t p.kept p.gone ≡ Accepted →
+      {t u : List ℕ} {p : Pair} {ps : List Pair} → merge_verdict t p.kept p.gone ≡ Ok tt →
       Merges (merged t p.kept p.gone) ps u → Merges t (p ∷ ps) u
 
 -- the pairs of the q-cells below n

@@ -13,32 +13,27 @@ ghost use Rattle.weld.specs.Joins.{joined, join_faces, join_cell, join_level, jo
 ghost use Rattle.weld.specs.Maps.{held_by, Maps, Ready, Becomes, Sent, Renamable, renamed_record};
 ghost use Rattle.weld.specs.Call.{weld_answer, weld_leaves};
 
-use calls::{Named, Verdict};
-use table::Table;
+use calls::Refusal;
+use table::{Record, Table};
 
-// Every one of the first n words that is the number gone becomes kept. Each word is written, changed or not: so many go at once.
-fn send(k: &mut [u16], n: usize, kept: u16, gone: u16)
-    requires { n ≤ length k.old }
-    ensures { Sent kept gone n k.old k.new }
+// Every word that is the number gone becomes kept. Each word is written, changed or not: so many go at once.
+fn send(k: &mut [u16], kept: u16, gone: u16)
+    ensures { Sent kept gone (length k.old) k.old k.new }
 {
-    for c in 0..n {
-        k[c] = merge::sent(k[c], kept, gone);
+    for word in k.iter_mut() {
+        *word = merge::sent(*word, kept, gone);
     }
 }
 
 // The classes of x and y become one, under the smaller of their numbers.
-fn join(k: &mut [u16], n: usize, x: usize, y: usize)
-    requires { (Maps n k.old) × (x < n) × (y < n) }
-    ensures { Becomes n (λ κ. joined κ x y) k.old k.new }
+fn join(k: &mut [u16], x: usize, y: usize)
+    requires { (Maps (length k.old) k.old) × (x < length k.old) × (y < length k.old) }
+    ensures { Becomes (length k.old) (λ κ. joined κ x y) k.old k.new }
 {
     let i = k[x];
     let j = k[y];
-    if i < j {
-        send(k, n, i, j);
-        return;
-    }
-    if j < i {
-        send(k, n, j, i);
+    if i != j {
+        send(k, i.min(j), i.max(j));
     }
 }
 
@@ -47,20 +42,12 @@ fn join_places(t: &[u16], k: &mut [u16], c: usize, d: usize)
     requires { (Ready t.now k.old) × (Live t.now c) × (Live t.now d) × (dim_of t.now c ≡ dim_of t.now d) }
     ensures { Becomes (cells_of t.now) (join_faces t.now c d) k.old k.new }
 {
-    let n = Table::room(t);
     let used = Table::used(Table::dim(t, c));
-    for j in 0..used {
-        let x = Table::face(t, c, j);
-        let y = Table::face(t, d, j);
-        join(k, n, x as usize, y as usize);
+    let xs = Table::faces(t, c);
+    let ys = Table::faces(t, d);
+    for (j, x) in xs[..used].iter().enumerate() {
+        join(k, *x as usize, ys[j] as usize);
     }
-}
-
-// A word as an index.
-fn wide(x: u16) -> usize
-    ensures { result ≡ x }
-{
-    x as usize
 }
 
 // Joins record c with its image face by face, where it is a q-cell that goes elsewhere.
@@ -71,7 +58,7 @@ fn join_cell(t: &[u16], k: &mut [u16], q: u16, c: usize)
     if Table::dim(t, c) != q {
         return;
     }
-    let d = wide(k[c]);
+    let d = usize::from(k[c]);
     if d != c {
         join_places(t, k, c, d);
     }
@@ -82,8 +69,7 @@ fn join_cells(t: &[u16], k: &mut [u16], q: u16)
     requires { (Ready t.now k.old) × (q ≤ top) }
     ensures { Becomes (cells_of t.now) (join_level t.now q) k.old k.new }
 {
-    let n = Table::room(t);
-    for c in 0..n {
+    for c in 0..Table::room(t) {
         join_cell(t, k, q, c);
     }
 }
@@ -93,73 +79,60 @@ fn join_levels(t: &[u16], k: &mut [u16], p: u16)
     requires { (Ready t.now k.old) × (p ≤ top) }
     ensures { Becomes (cells_of t.now) (join_levels t.now p) k.old k.new }
 {
-    let mut q = p;
-    while q > 0 {
+    for q in (1..=p).rev() {
         join_cells(t, k, q);
-        q -= 1;
     }
 }
 
-// Each of the first n words is its own number.
-fn own(k: &mut [u16], n: usize)
-    requires { (n ≤ length k.old) × (n ≤ capacity) }
-    ensures { Becomes n (λ κ c. c) k.old k.new }
+// Each word is its own number.
+fn own(k: &mut [u16])
+    requires { length k.old ≤ capacity }
+    ensures { Becomes (length k.old) (λ κ c. c) k.old k.new }
 {
-    for c in 0..n {
-        k[c] = c as u16;
+    for (c, word) in k.iter_mut().enumerate() {
+        *word = c as u16;
     }
 }
 
-// Fills the words with the map of the weld of a and b.
+// Fills the words, one for each cell, with the map of the weld of a and b.
 fn classes(t: &[u16], k: &mut [u16], a: usize, b: usize)
-    requires { (Joinable t.now a b) × (cells_of t.now ≤ length k.old) }
+    requires { (Joinable t.now a b) × (length k.old ≡ cells_of t.now) }
     ensures { Becomes (cells_of t.now) (λ κ. weld_map t.now a b) k.old k.new }
 {
-    let n = Table::room(t);
-    let p = Table::dim(t, a);
-    own(k, n);
-    join(k, n, a, b);
-    join_levels(t, k, p);
+    own(k);
+    join(k, a, b);
+    join_levels(t, k, Table::dim(t, a));
 }
 
-// Where cell f goes.
-fn image(k: &[u16], f: u16) -> u16
-    requires { f < length k.now }
-    ensures { result ≡ get_or k.now f 0 }
-{
-    k[f as usize]
-}
-
-// Renames record c, which has so many faces: it becomes free where its cell goes elsewhere, else its faces go to their images.
-fn rename_as(t: &mut [u16], k: &[u16], c: usize, faces: usize)
-    requires { (Renamable t.old k.now c) × (faces ≡ used_of (dim_of t.old c)) }
+// Renames record c, which has so many faces: it becomes free where its cell goes elsewhere, else its faces go to their images. The number
+// is a constant, so the faces are written by straight code.
+fn rename_as<const FACES: usize>(t: &mut [u16], k: &[u16], c: usize)
+    requires { (Renamable t.old k.now c) × (FACES ≡ used_of (dim_of t.old c)) }
     ensures { Stored c (renamed_record (held_by k.now t.old) t.old c) t.old t.new }
 {
-    if wide(k[c]) != c {
-        Table::put(t, c, Table::FREE, [Table::FREE; Table::FACES]);
+    if usize::from(k[c]) != c {
+        Table::put(t, c, Record::FREE);
         return;
     }
-    for j in 0..faces {
+    for j in 0..FACES {
         let f = Table::face(t, c, j);
-        Table::put_face(t, c, j, image(k, f));
+        Table::put_face(t, c, j, k[f as usize]);
     }
 }
 
-// Renames record c. There is an arm for each number of faces, as a constant: where it is one they are written by straight code, where
-// it is read from the table by a loop.
+// Renames record c: an arm for each number of faces.
 fn rename(t: &mut [u16], k: &[u16], c: usize)
     requires { Renamable t.old k.now c }
     ensures { Stored c (renamed_record (held_by k.now t.old) t.old c) t.old t.new }
 {
-    let p = Table::dim(t, c);
-    match p {
-        1 => rename_as(t, k, c, 2),
-        2 => rename_as(t, k, c, 3),
-        3 => rename_as(t, k, c, 4),
-        4 => rename_as(t, k, c, 5),
-        5 => rename_as(t, k, c, 6),
-        6 => rename_as(t, k, c, 7),
-        _ => rename_as(t, k, c, 0),
+    match Table::dim(t, c) {
+        1 => rename_as::<2>(t, k, c),
+        2 => rename_as::<3>(t, k, c),
+        3 => rename_as::<4>(t, k, c),
+        4 => rename_as::<5>(t, k, c),
+        5 => rename_as::<6>(t, k, c),
+        6 => rename_as::<7>(t, k, c),
+        _ => rename_as::<0>(t, k, c),
     }
 }
 
@@ -168,53 +141,52 @@ fn rename_all(t: &mut [u16], k: &[u16])
     requires { (Valid t.old) × (cells_of t.old ≤ length k.now) }
     ensures { t.new ≡ renamed (held_by k.now t.old) t.old }
 {
-    let n = Table::room(t);
-    for c in 0..n {
+    for c in 0..Table::room(t) {
         rename(t, k, c);
     }
 }
 
 // Welds two live cells of one dimension: their classes on the words, then one pass over the records.
 fn glue_on(t: &mut [u16], k: &mut [u16], a: usize, b: usize)
-    requires { (Joinable t.old a b) × (cells_of t.old ≤ length k.old) }
+    requires { (Joinable t.old a b) × (length k.old ≡ cells_of t.old) }
     ensures { t.new ≡ renamed (weld_map t.old a b) t.old }
 {
     classes(t, k, a, b);
     rename_all(t, k);
 }
 
+// The same on words of its own, set to 0 before they are used: of so many each cell has one.
+fn glue_with<const N: usize>(t: &mut [u16], a: usize, b: usize)
+    requires { (Joinable t.old a b) × (cells_of t.old ≤ N) × (N ≤ capacity) }
+    ensures { t.new ≡ renamed (weld_map t.old a b) t.old }
+{
+    let mut k = [0u16; N];
+    glue_on(t, &mut k[..Table::room(t)], a, b);
+}
+
 // A table of so many cells has few words for its map.
 const FEW: usize = 64;
 
-// The same on words of its own: 1 KB of stack, set to 0 before it is used, or an eighth of that where it does, since a small table is
-// welded in less time than the whole takes to set.
+const MANY: usize = Table::CAPACITY;
+
+// The same: on 1 KB of stack, or an eighth of that where it does, since a small table is welded in less time than the whole takes to set.
 fn glue(t: &mut [u16], a: usize, b: usize)
     requires { Joinable t.old a b }
     ensures { t.new ≡ renamed (weld_map t.old a b) t.old }
 {
     if Table::room(t) <= FEW {
-        let mut k: [u16; FEW] = [0; FEW];
-        glue_on(t, &mut k, a, b);
-        return;
+        glue_with::<FEW>(t, a, b);
+    } else {
+        glue_with::<MANY>(t, a, b);
     }
-    let mut k: [u16; Table::CAPACITY] = [0; Table::CAPACITY];
-    glue_on(t, &mut k, a, b);
 }
 
 // Joins two different live cells of one dimension, their faces place by place, and so on down; each class of joined cells becomes its
 // smallest number, and the answer is the pair's. Refused with 1 to 5, in that order; then no word changes.
-pub fn weld(t: &mut [u16], a: u16, b: u16) -> Named
+pub fn weld(t: &mut [u16], a: u16, b: u16) -> Result<u16, Refusal>
     ensures { Ends (weld_answer t.old a b) (weld_leaves t.old a b) result t.new }
 {
-    let found = merge::joinable(t, a, b);
-    match found {
-        Verdict::Refused(r) => Named::NoCell(r),
-        Verdict::Accepted => {
-            glue(t, a as usize, b as usize);
-            if a < b {
-                return Named::Cell(a);
-            }
-            Named::Cell(b)
-        }
-    }
+    merge::joinable(t, a, b)?;
+    glue(t, a as usize, b as usize);
+    Ok(a.min(b))
 }

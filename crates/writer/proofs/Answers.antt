@@ -15,18 +15,18 @@ use Rattle.audit.specs.Audit.{audit_grounds}
 use Rattle.calls.specs.Calls.{Ground, verdict, Ends}
 use Rattle.calls.specs.declared.Refusal.{Refusal}
 use Rattle.calls.specs.declared.Refusal.TheVariants.{NoRoom}
-use Rattle.calls.specs.declared.Verdict.TheVariants.{Accepted, Refused}
+use Rattle.std.specs.declared.result.Result.TheVariants.{Ok, Err}
+use Prim.{tt}
 use Rattle.calls.proofs.Grounds.{refused_first, accepted_first}
 use Rattle.audit.proofs.Valid.{audit_accepts_iff_valid}
 use Rattle.sketch.specs.Written.{file_of, write_verdict}
-use Rattle.writer.specs.declared.Written.{Written}
-use Rattle.writer.specs.declared.Written.TheVariants.{Bytes, NotWritten}
+use Rattle.std.specs.declared.result.Result.{Result}
 use Rattle.writer.specs.Write.{write_answer, write_leaves}
 use Rattle.writer.specs.Put.{Put}
 
 module _ (t target : List ℕ) where
   -- the call ends with answer r and leaves d
-  abbrev WriteEnds : Written → List ℕ → Type 0
+  abbrev WriteEnds : Result ℕ Refusal → List ℕ → Type 0
   WriteEnds r d = Ends (write_answer t target) (write_leaves t target) r d
 
   -- the ground after the audit's
@@ -34,10 +34,10 @@ module _ (t target : List ℕ) where
   on_room = record { refusal = NoRoom; applies = ltb (length target) (length (file_of t)) } ∷ []
 
   -- a refusal leaves the target
-  refused : (r : Refusal) → write_verdict t target ≡ Refused r → WriteEnds (NotWritten r) target
+  refused : (r : Refusal) → write_verdict t target ≡ Err r → WriteEnds (Err r) target
   refused r e = record { answer = rw e; left = rw e }
 
-  pub ends_refused : (r : Refusal) → verdict (audit_grounds t) ≡ Refused r → WriteEnds (NotWritten r) target
+  pub ends_refused : (r : Refusal) → verdict (audit_grounds t) ≡ Err r → WriteEnds (Err r) target
   unfolding write_verdict
   ends_refused r e = refused r (refused_first (audit_grounds t) on_room r e)
 
@@ -46,18 +46,18 @@ module _ (t target : List ℕ) where
     unfolding write_verdict
     passes = accepted_first (audit_grounds t) on_room ((audit_accepts_iff_valid t).1 v)
 
-    pub ends_without_room : length target < length (file_of t) → WriteEnds (NotWritten NoRoom) target
+    pub ends_without_room : length target < length (file_of t) → WriteEnds (Err NoRoom) target
     ends_without_room l = refused NoRoom (passes ∙ rw (lt-ltb (length target) (length (file_of t)) l))
 
     -- the file put at the front is what an accepted call leaves
     module _ {e : ℕ} {d : List ℕ} (l : length (file_of t) ≤ length target) (a : Put target 0 (file_of t) e d) where
-      accepted : write_verdict t target ≡ Accepted
+      accepted : write_verdict t target ≡ Ok tt
       accepted = passes ∙ rw (le-ltb (length target) (length (file_of t)) l)
 
       file_left : d ≡ file_of t ++ drop (length (file_of t)) target
       file_left = a.left ∙ sets-eq (file_of t) target 0 (omega arith) ∙ rw (zero-add (length (file_of t)))
 
-      pub ends_written : WriteEnds (Bytes e) d
+      pub ends_written : WriteEnds (Ok e) d
       ends_written =
           let k : e ≡ length (file_of t) = omega arith in
-          record { answer = rw accepted (ap Bytes k); left = rw accepted file_left }
+          record { answer = rw accepted (ap Ok k); left = rw accepted file_left }

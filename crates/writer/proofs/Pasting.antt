@@ -1,13 +1,14 @@
 -- Bytes put one piece after the other are the pieces put at once, and what fits as a whole fits piece by piece.
 -- What carries it: a run of stores goes on where the run before it ended. Assumes nothing.
 use mathlib.Core.Path.{◌≡◌, refl, sym, ap, ap₂, ◌∙◌}
-use mathlib.Core.List.{List, [], ◌∷◌, ◌++◌}
-use Prim.Native.Nat.{ℕ, suc, ◌+◌, ◌/◌, ◌%◌, ◌≤◌, ◌<◌}
-use native.Mathlib.Nat.{add-zero, add-suc, suc-add, div-div-eq-div-mul}
-use native.Mathlib.Numerals.{add-one}
+use mathlib.Core.List.{List, [], ◌∷◌, ◌++◌, append_assoc}
+use Prim.Native.Nat.{ℕ, suc, ◌+◌, ◌-◌, ◌≤◌, ◌<◌}
+use native.Mathlib.Nat.{add-zero, add-suc, suc-add}
 use native.Mathlib.Omega.{arith}
-use lib.ListN.{length, set, length-append}
-use lib.Seq.{sets, length-sets}
+use borrow.Rule.Slice.PartMut.{put_mid, post_of, same_len_mid, Post-is, mid_len}
+use lib.ListN.{length, set, take, drop, length-append}
+use lib.Seq.{sets, sets-eq}
+use Rattle.std.specs.Int.{w16, w32, to_le_bytes}
 use Rattle.sketch.specs.Form.{two, four, pieces}
 use Rattle.counting.proofs.Totals.{total_inside}
 use Rattle.sketch.proofs.Pieces.{pieces_zero, pieces_more, length_pieces}
@@ -37,16 +38,28 @@ pub put_as : {d x y d' : List ℕ} {at e : ℕ} → x ≡ y → Put d at x e d' 
 put_as {d} {x} {y} {d'} {at} q a =
     record { ends = a.ends ∙ ap (λ l. at + length l) q; same = a.same; left = a.left ∙ ap (sets d at) q }
 
--- the stores of two bytes, and two times two for four
-pub put_two : (d : List ℕ) (at v : ℕ) → Put d at (two v) (at + 2) (set (set d at (v % 256)) (at + 1) (v / 256 % 256))
-unfolding two
-put_two d at v =
-    let e = ap (λ k. set (set d at (v % 256)) k (v / 256 % 256)) (add-one at) in
-    record { ends = refl; same = ap length e ∙ length-sets d at (two v); left = e }
+-- bytes copied into the part from `at` to e
+pub put_part :
+    (d bytes p : List ℕ) (at e : ℕ) → e ≡ at + length bytes → e ≤ length d → p ≡ bytes → Put d at bytes e (put_mid at (e - at) d p)
+put_part d bytes p at e ends room copied =
+    record {
+      ends = ends;
+      same = same_len_mid at (e - at) d p (ap length copied ∙ omega (arith, mid_len at e d room));
+      left =
+          ap (λ l. take at d ++ (l ++ post_of at (e - at) d)) copied
+          ∙ ap (λ l. take at d ++ (bytes ++ l)) (Post-is at e d (omega arith) ∙ ap (λ k. drop k d) ends)
+          ∙ sym (append_assoc (take at d) bytes (drop (at + length bytes) d))
+          ∙ sym (sets-eq bytes d at (omega arith));
+    }
 
-pub two_and_two : (v : ℕ) → two v ++ two (v / 65536) ≡ four v
-unfolding two four
-two_and_two v = rw (div-div-eq-div-mul v 65536 256)
+-- the bytes of a number in 2 and in 4, as the library gives them
+pub two_bytes : (v : ℕ) → to_le_bytes w16 v ≡ two v
+unfolding two
+two_bytes v = refl
+
+pub four_bytes : (v : ℕ) → to_le_bytes w32 v ≡ four v
+unfolding four
+four_bytes v = refl
 
 module _ (f : ℕ → List ℕ) where
   -- no piece, and one piece more

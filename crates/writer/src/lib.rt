@@ -4,53 +4,37 @@
 
 ghost use Rattle.std.specs.Prelude.{◌≡◌, ◌+◌, ◌*◌, ◌≤◌, ◌<◌, length};
 ghost use Rattle.std.proofs.lemmas.List.Edits.{sets};
-ghost use Rattle.table.specs.Kind.{top, dimensions};
-ghost use Rattle.table.specs.Table.{cells_of, count_of};
+ghost use Rattle.table.specs.Kind.{capacity, top, dimensions};
+ghost use Rattle.table.specs.Table.{cells_of, count_of, Sized};
 ghost use Rattle.calls.specs.Calls.{Ends};
 ghost use Rattle.sketch.specs.Form.{two, four, pieces, entry_size, contents_size, record_size, body_start, longest};
 ghost use Rattle.sketch.specs.Written.{cell_bytes, body_of, contents_of, file_of};
 ghost use Rattle.writer.specs.Put.{Put, Counted, Started, in_array, entry};
 ghost use Rattle.writer.specs.Write.{write_answer, write_leaves};
 
-use calls::{Refusal, Verdict};
+use calls::Refusal;
 use table::Table;
-
-// The length that was written, or why nothing was.
-#[derive(Drop)]
-pub enum Written {
-    Bytes(usize),
-    NotWritten(Refusal),
-}
 
 // The bodies' starts, and the file's length.
 const STARTS: usize = Table::DIMENSIONS + 1;
 
-// A number in 2 bytes, the low byte first.
-fn put_two(target: &mut [u8], at: usize, v: usize) -> usize
-    requires { at + 2 ≤ length target.old }
-    ensures { Put target.old at (two v) result target.new }
+// Puts these bytes into the target from a place on.
+fn put<const N: usize>(target: &mut [u8], at: usize, bytes: [u8; N]) -> usize
+    requires { at + N ≤ length target.old }
+    ensures { Put target.old at bytes.entry result target.new }
 {
-    target[at] = (v % 256) as u8;
-    target[at + 1] = (v / 256 % 256) as u8;
-    at + 2
-}
-
-// An offset in 4 bytes, the low byte first: its low two, then what is above them.
-fn put_four(target: &mut [u8], at: usize, offset: usize) -> usize
-    requires { at + 4 ≤ length target.old }
-    ensures { Put target.old at (four offset) result target.new }
-{
-    let middle = put_two(target, at, offset);
-    put_two(target, middle, offset / 65536)
+    let end = at + N;
+    target[at..end].copy_from_slice(&bytes);
+    end
 }
 
 // An entry of the contents: the count, then where the body starts.
-fn put_entry(target: &mut [u8], at: usize, count: usize, start: usize) -> usize
-    requires { at + entry_size ≤ length target.old }
+fn put_entry(target: &mut [u8], at: usize, count: u16, start: usize) -> usize
+    requires { (at + entry_size ≤ length target.old) × (start ≤ longest) }
     ensures { Put target.old at (entry count start) result target.new }
 {
-    let middle = put_two(target, at, count);
-    put_four(target, middle, start)
+    let middle = put(target, at, count.to_le_bytes());
+    put(target, middle, (start as u32).to_le_bytes())
 }
 
 // Where the body after this one starts.
@@ -67,8 +51,8 @@ fn body_starts(counts: [u16; Table::DIMENSIONS]) -> [usize; STARTS]
     ensures { Started (in_array counts) result }
 {
     let mut starts = [sketch::CONTENTS; STARTS];
-    for p in 0..Table::DIMENSIONS {
-        starts[p + 1] = next_start(starts[p], counts[p] as usize, p);
+    for (p, count) in counts.iter().enumerate() {
+        starts[p + 1] = next_start(starts[p], *count as usize, p);
     }
     starts
 }
@@ -80,37 +64,36 @@ fn put_contents(
     starts: [usize; STARTS],
     target: &mut [u8],
 ) -> usize
-    requires { (Counted t.now counts) × (Started (count_of t.now) starts) × (length (contents_of t.now) ≤ length target.old) }
+    requires { (Sized t.now) × (Counted t.now counts) × (Started (count_of t.now) starts) × (length (contents_of t.now) ≤ length target.old) }
     ensures { Put target.old 0 (contents_of t.now) result target.new }
 {
-    let mut end = put_two(target, 0, Table::room(t));
-    for p in 0..Table::DIMENSIONS {
-        end = put_entry(target, end, counts[p] as usize, starts[p]);
+    let mut end = put(target, 0, (Table::room(t) as u16).to_le_bytes());
+    for (p, count) in counts.iter().enumerate() {
+        end = put_entry(target, end, *count, starts[p]);
     }
     end
 }
 
 // The record of cell c: its number, then its faces.
 fn put_cell(t: &[u16], c: usize, target: &mut [u8], at: usize) -> usize
-    requires { (c < cells_of t.now) × (at + length (cell_bytes t.now c) ≤ length target.old) }
+    requires { (c < cells_of t.now) × (cells_of t.now ≤ capacity) × (at + length (cell_bytes t.now c) ≤ length target.old) }
     ensures { Put target.old at (cell_bytes t.now c) result target.new }
 {
     let used = Table::used(Table::dim(t, c));
-    let mut end = put_two(target, at, c);
+    let mut end = put(target, at, (c as u16).to_le_bytes());
     for j in 0..used {
-        end = put_two(target, end, Table::face(t, c, j) as usize);
+        end = put(target, end, Table::face(t, c, j).to_le_bytes());
     }
     end
 }
 
 // The bodies, in one pass over the cells: each goes where its body has come to.
 fn put_bodies(t: &[u16], starts: [usize; STARTS], target: &mut [u8])
-    requires { (Started (count_of t.now) starts) × (length (file_of t.now) ≤ length target.old) }
+    requires { (Started (count_of t.now) starts) × (cells_of t.now ≤ capacity) × (length (file_of t.now) ≤ length target.old) }
     ensures { target.new ≡ sets target.old contents_size (pieces (body_of t.now) dimensions) }
 {
-    let cells = Table::room(t);
     let mut ends = starts;
-    for c in 0..cells {
+    for c in 0..Table::room(t) {
         let p = Table::dim(t, c) as usize;
         if p < Table::DIMENSIONS {
             ends[p] = put_cell(t, c, target, ends[p]);
@@ -120,22 +103,17 @@ fn put_bodies(t: &[u16], starts: [usize; STARTS], target: &mut [u8])
 
 // Writes the table as a sketch file and answers its length; no byte after it is touched. Refused with 1, 2, 9, in that order; then
 // no byte changes.
-pub fn write(t: &[u16], target: &mut [u8]) -> Written
+pub fn write(t: &[u16], target: &mut [u8]) -> Result<usize, Refusal>
     ensures { Ends (write_answer t.now target.old) (write_leaves t.now target.old) result target.new }
 {
-    let found = audit::audit(t);
-    match found {
-        Verdict::Refused(r) => Written::NotWritten(r),
-        Verdict::Accepted => {
-            let counts = Table::census(t);
-            let starts = body_starts(counts);
-            let size = starts[Table::DIMENSIONS];
-            if target.len() < size {
-                return Written::NotWritten(Refusal::NoRoom);
-            }
-            put_contents(t, counts, starts, target);
-            put_bodies(t, starts, target);
-            Written::Bytes(size)
-        }
+    audit::audit(t)?;
+    let counts = Table::census(t);
+    let starts = body_starts(counts);
+    let size = starts[Table::DIMENSIONS];
+    if target.len() < size {
+        return Err(Refusal::NoRoom);
     }
+    put_contents(t, counts, starts, target);
+    put_bodies(t, starts, target);
+    Ok(size)
 }

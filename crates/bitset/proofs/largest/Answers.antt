@@ -1,29 +1,18 @@
--- `largest` meets its contract. The invariant: every word from w on is 0. The measure: w. Assumes nothing.
-use Prim.Native.Nat.{◌-◌}
-use native.Mathlib.Omega.{arith}
-use Rattle.bitset.proofs.LargestMember.{leading_is_largest, zeros_all, leading_inside, zeros_down, zeros_past}
-use lib.ListN.{get_or}
-use borrow.Author.Rules.{rules}
+-- `largest` meets its contract: the top bit of the last word that is not 0. Assumes nothing.
+use Rattle.std.proofs.Common.{arith, rules, None}
+use Rattle.std.proofs.lemmas.Grind.{common_steps}
+use Rattle.bitset.specs.Bits.{LargestIs}
+use Rattle.bitset.proofs.LargestMember.{top_bit_is_largest}
+use Rattle.bitset.proofs.Marks.{mark_of_zero_word}
 use Rattle.bitset.proofs.largest.Goals as goal
 
-pub returns-then-v-ne0 : goal.returns-then-v-ne0
-returns-then-v-ne0 c =
-    let l = c.loop-w in
-    let fits = c.type_inv.ws (l.w - 1) in
-    leading_is_largest c.args.ws.now (l.w - 1) (omega arith) (omega arith) fits.fits (λ k h. l.invariant.1 k (omega arith))
+pub returns-in_err-last : goal.returns-in_err-last
+returns-in_err-last c =
+    let ws = c.args.ws.now in
+    let none : LargestIs ws None = λ s. mark_of_zero_word ws s (search (rules, common_steps)) in
+    search rules
 
 pub returns : goal.returns
-returns c = zeros_all c.args.ws.now c.loop-w.w c.loop-w-test.false c.loop-w.invariant.1
-
-pub overflow_sub-result : goal.overflow_sub-result
-overflow_sub-result c =
-    let fits = c.type_inv.ws (c.loop-w.w - 1) in
-    omega (arith, leading_inside ((get_or c.args.ws.now (c.loop-w.w - 1) 0)) (omega arith) fits.fits)
-
-pub loop-w-preserved : goal.loop-w-preserved
-loop-w-preserved c =
-    let l = c.loop-w in
-    (omega arith, zeros_down c.args.ws.now l.w l.invariant.1 c.if-v-ne0.false)
-
-pub loop-w-init : goal.loop-w-init
-loop-w-init c = (search rules, zeros_past c.args.ws.now)
+returns c =
+    let w = c.in_ok-last.last in
+    top_bit_is_largest c.args.ws.now w c.ilog2.result c.in_ok-last.ensures.inside (omega (arith, c.ilog2.ensures.bound)) c.ilog2.ensures.power_le c.ilog2.ensures.next_power_gt (λ k h. search (rules, common_steps))

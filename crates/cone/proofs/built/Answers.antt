@@ -1,42 +1,30 @@
--- `built` meets its contract: the pass over the marks says whether there is room; where there is, the numbers are those of the rule,
--- and the table is the coned one. Assumes nothing.
-use mathlib.Core.Path.{◌≡◌, refl}
-use native.Mathlib.Omega.{arith}
-use Rattle.cone.specs.Cone.{apex_of}
-use Rattle.cone.specs.Parts.{MarksEnd}
-use Rattle.cone.proofs.Numbering.{first_free}
-use Rattle.cone.proofs.Refusals.{few_cells, words_fit, ends_inside, room_lacks, ready, room_found}
+-- `built` meets its contract: the numbers are those of the rule or there are too few, and the table is the coned one. Assumes nothing.
+use mathlib.Core.Path.{◌≡◌, sym, ◌∙◌}
+use borrow.Author.Rules.{rules}
+use Prim.{tt}
+use Rattle.std.specs.declared.result.Result.TheVariants.{Ok}
+use Rattle.cone.specs.Parts.{Given, room_verdict}
+use Rattle.cone.proofs.Refusals.{room_lacks, ready, room_found}
 use Rattle.cone.proofs.built.Goals as goal
-use Rattle.cone.proofs.built.Goals.{After-marks_end-end}
+use Rattle.cone.proofs.built.Goals.{In_ok-give}
 
--- what is known at the end of the marks
-is_apex : (m : After-marks_end-end) → m.next_free-first.result ≡ apex_of m.args.t.now
-is_apex m = first_free _ _ m.next_free-first.ensures.0
+room : (c : In_ok-give) → room_verdict c.args.t.now c.args.marks.now ≡ Ok tt
+room c = sym c.give.ensures.room ∙ c.in_ok-give.was
 
-ends : (m : After-marks_end-end) → MarksEnd m.args.t.now m.args.marks.now m.marks_end-end.result
-ends m = ends_inside m.args.t.now m.args.marks.now m.requires _ m.marks_end-end.ensures
+given : (c : In_ok-give) → Given c.args.t.now c.args.marks.now c.give.new.self
+given c = c.in_ok-give.ensures.given
 
-pub marks_end-end-requires : goal.marks_end-end-requires
-marks_end-end-requires c =
-    words_fit c.args.t.now c.args.marks.now c.requires
-
-pub cone_numbers-requires : goal.cone_numbers-requires
-cone_numbers-requires c =
-    (few_cells c.args.t.now c.args.marks.now c.requires, is_apex (goal.at.cone_numbers-requires c).After-marks_end-end, refl, ends (goal.at.cone_numbers-requires c).After-marks_end-end)
-
-pub overflow_cast-apex : goal.overflow_cast-apex
-overflow_cast-apex c =
-    omega (arith, c.next_free-first.ensures.1, few_cells c.args.t.now c.args.marks.now c.requires)
+pub returns-in_err-give : goal.returns-in_err-give
+returns-in_err-give c =
+    let a = c.args in
+    search (rules, room_lacks a.t.now a.marks.now c.requires c.in_err-give.field-0.0 (sym c.give.ensures.room ∙ c.in_err-give.was))
 
 pub raise-requires : goal.raise-requires
 raise-requires c =
-    (ready c.args.t.now c.args.marks.now c.requires _ _ _ (is_apex (goal.at.raise-requires c).After-marks_end-end) c.cone_numbers.ensures c.if-cone_numbers.true, ends (goal.at.raise-requires c).After-marks_end-end)
-
-pub returns-then-cone_numbers : goal.returns-then-cone_numbers
-returns-then-cone_numbers c =
-    room_found c.args.t.now c.args.marks.now c.requires _ _ _ (is_apex (goal.at.returns-then-cone_numbers c).After-marks_end-end) c.cone_numbers.ensures c.if-cone_numbers.true _
-    c.raise.ensures
+    let b = (goal.at.raise-requires c).In_ok-give in
+    ready _ _ c.requires (room b) _ (given b)
 
 pub returns : goal.returns
 returns c =
-    room_lacks c.args.t.now c.args.marks.now c.requires _ _ _ (is_apex (goal.at.returns c).After-marks_end-end) c.cone_numbers.ensures c.if-cone_numbers.false
+    let b = (goal.at.returns c).In_ok-give in
+    room_found _ _ c.requires (room b) _ (given b) _ c.raise.ensures

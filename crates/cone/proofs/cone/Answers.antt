@@ -1,9 +1,10 @@
 -- `cone` meets its contract: what the early grounds refuse is refused so, and the rest is `built`. Assumes nothing.
 use mathlib.Core.Path.{sym, ◌∙◌}
+use borrow.Author.Rules.{rules}
 use Rattle.cone.proofs.Refusals.{refused_early}
 use Rattle.cone.proofs.cone.Goals as goal
 
-pub returns-in-Refused : goal.returns-in-Refused
-returns-in-Refused c =
+pub returns-in_err-judge : goal.returns-in_err-judge
+returns-in_err-judge c =
     let a = c.args in
-    refused_early a.t.now a.marks.now _ (sym c.judge-early.ensures ∙ c.in-Refused.is)
+    search (rules, refused_early a.t.now a.marks.now c.in_err-judge.field-0.0 (sym c.judge.ensures ∙ c.in_err-judge.was))

@@ -5,7 +5,7 @@ use Prim.Native.Nat.{ℕ}
 use native.Mathlib.Omega.{arith}
 use lib.ListN.{length, take}
 use lib.Seq.{take_all}
-use Rattle.corner.proofs.Corners.{corner_of_point, lower_asks, lower_answers, last_asks, last_answers}
+use Rattle.corner.proofs.Corners.{corner_of_point, lower_answers, last_asks, last_answers}
 use Rattle.corner.proofs.+corner_of.Goals as goal
 
 -- the part that is handed on is the whole table
@@ -14,11 +14,6 @@ whole t = take_all (length t) t (omega arith)
 
 pub returns-then-p-eq0 : goal.returns-then-p-eq0
 returns-then-p-eq0 t c = sym (corner_of_point _ _ _ (sym c.requires.p_value ∙ c.if-p-eq0.true))
-
-pub corner_of-requires : goal.corner_of-requires
-corner_of-requires t c =
-    lower_asks _ _ (whole _) _ _ _ _ _ c.requires.valid c.requires.live c.requires.p_value c.if-p-eq0.false c.decreases c.if-k-p.true
-    c.face.ensures
 
 pub returns-then-k-p : goal.returns-then-k-p
 returns-then-k-p t c =

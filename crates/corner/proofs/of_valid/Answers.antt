@@ -3,7 +3,7 @@ use mathlib.Core.Path.{◌≡◌, sym, ap, ◌∙◌}
 use mathlib.Core.Bool.{true}
 use native.Mathlib.Omega.{arith}
 use Rattle.table.specs.Table.{live}
-use Rattle.calls.specs.declared.Named.TheVariants.{Cell}
+use Rattle.std.specs.declared.result.Result.TheVariants.{Ok}
 use Rattle.table.proofs.Records.{live_true}
 use Rattle.corner.proofs.CornerAnswers.{dead_refused, past_refused, corner_given}
 use Rattle.corner.proofs.of_valid.Goals as goal
@@ -29,5 +29,5 @@ corner_of-requires-clause-live c = live_true _ _ (living (goal.at.corner_of-requ
 
 pub returns : goal.returns
 returns c =
-    ap Cell c.corner_of.ensures
+    ap Ok c.corner_of.ensures
     ∙ corner_given _ _ _ c.requires (living (goal.at.returns c).Else-not-live) (omega (arith, c.dim-p.ensures))

@@ -2,66 +2,56 @@
 -- is emptied. Assumes nothing.
 use mathlib.Core.Path.{◌≡◌, refl, sym, ◌∙◌}
 use mathlib.Core.Bool.{true}
+use Prim.{tt}
 use lib.ListN.{length, replicate}
+use Rattle.std.specs.Prelude.{Ok, Err}
+use Rattle.std.proofs.lemmas.Result.{err_from_is_err_and}
 use Rattle.table.specs.Kind.{free_mark}
-use Rattle.table.specs.Table.{cells_of, sized}
-use Rattle.lines.specs.Scans.{Opens, Scanned}
-use Rattle.intake.specs.Steps.{Fills}
-use Rattle.intake.proofs.Answers.{as_read, imports_length, accepted_sized, cleared, none_kept, imports_text, imports_index, imports_full, imports_all, imports_refused, scan_none, scan_unfit, scan_fit, fills_there}
+use Rattle.table.specs.Table.{sized}
+use Rattle.intake.proofs.Answers.{as_read, imports_length, accepted_sized, cleared, none_kept, imports_full, imports_all, imports_refused, fills_there}
 use Rattle.intake.proofs.import.Goals as goal
-use Rattle.intake.proofs.import.Goals.{After-scan_text-scan, In-Fit, After-fill}
+use Rattle.intake.proofs.import.Goals.{In_ok-empty}
 
-pub returns-in-Refused : goal.returns-in-Refused
-returns-in-Refused c =
-    let e = c.empty-emptied.ensures in
-    as_read _ _ _ _ (imports_length _ _ _ _ (sym e.answer ∙ c.in-Refused.is) e.left)
+-- once the table is emptied its length is a table's, and every word is the free mark
+sized_here : (c : In_ok-empty) → sized c.args.t.now ≡ true
+sized_here c = accepted_sized _ (sym c.in_ok-empty.ensures.answer)
 
--- the length is a table's, from there on; and every word is the free mark
-sized_here : (c : After-scan_text-scan) → sized c.args.t.now ≡ true
-sized_here c = accepted_sized _ (sym c.empty-emptied.ensures.answer ∙ c.in_default.is)
+free_here : (c : In_ok-empty) → c.empty.new.t ≡ replicate (length c.args.t.now) free_mark
+free_here c = cleared c.args.t.now (sized_here c) c.args.t.now _ refl c.in_ok-empty.ensures.left
 
-free_here : (c : After-scan_text-scan) → c.empty-emptied.new.t ≡ replicate (length c.args.t.now) free_mark
-free_here c = cleared c.args.t.now (sized_here c) c.args.t.now _ refl c.empty-emptied.ensures.left
+pub returns-in_err-empty : goal.returns-in_err-empty
+returns-in_err-empty c =
+    let p = err_from_is_err_and c.from_residual.result c.from_residual.ensures.1 in
+    let e = c.in_err-empty.ensures in
+    rw (p.1, p.2) (as_read _ _ _ _ (imports_length _ _ _ _ (sym e.answer) e.left))
 
--- the list that the scan found
-list_here : (k : In-Fit) → Opens k.args.text.now k.in-Fit.n k.in-Fit.start × Scanned k.args.text.now k.in-Fit.n true
-list_here k = scan_fit _ _ _ _ k.scan_text-scan.ensures k.in-Fit.is
+pub returns-in_err-n : goal.returns-in_err-n
+returns-in_err-n c =
+    let z = (goal.at.returns-in_err-n c).In_ok-empty in
+    let p = err_from_is_err_and c.from_residual-in_err-n.result c.from_residual-in_err-n.ensures.1 in
+    rw (p.1, p.2) (as_read _ _ _ _ (imports_refused _ (sized_here z) _ _ (free_here z) _ c.in_err-n.ensures))
 
 pub fill-requires : goal.fill-requires
 fill-requires c =
-    let z = (goal.at.fill-requires c).After-scan_text-scan in
-    let w = none_kept c.args.t.now (sized_here z) _ c.empty-emptied.auto.t (free_here z) in
-    let l = list_here (goal.at.fill-requires c).In-Fit in
+    let z = (goal.at.fill-requires c).In_ok-empty in
+    let w = none_kept c.args.t.now (sized_here z) _ c.empty.auto.t (free_here z) in
+    let l = c.in_ok-n.ensures in
     (w.0, w.1, l.0, l.1)
 
-pub returns-in-Unreadable : goal.returns-in-Unreadable
-returns-in-Unreadable c =
-    let z = (goal.at.returns-in-Unreadable c).After-scan_text-scan in
-    as_read _ _ _ _ (imports_text _ (sized_here z) _ _ (scan_none _ _ c.scan_text-scan.ensures c.in-Unreadable.is) (free_here z))
+pub returns-in-Err : goal.returns-in-Err
+returns-in-Err c =
+    let z = (goal.at.returns-in-Err c).In_ok-empty in
+    let l = c.in_ok-n.ensures.1 in
+    let w = fills_there c.args.t.now c.empty.new.t c.empty.auto.t c.args.text.now c.in_ok-n.n c.fill.new.t (Err c.in-Err.why) c.in-Err.ensures in
+    rw (c.refused.ensures.answer, w.refusal)
+    (as_read _ _ _ _
+    (imports_full _ (sized_here z) _ _ _ l.lines l.is_list l.fits (w.full l.lines l.is_list)
+    (cleared _ (sized_here z) _ _ (c.fill.auto.t ∙ c.empty.auto.t) c.refused.ensures.left)))
 
-pub returns-in-Unfit : goal.returns-in-Unfit
-returns-in-Unfit c =
-    let z = (goal.at.returns-in-Unfit c).After-scan_text-scan in
-    let w = scan_unfit _ _ c.scan_text-scan.ensures c.in-Unfit.is in
-    as_read _ _ _ _ (imports_index _ (sized_here z) _ _ w.0 w.1.lines w.1.is_list w.1.fits (free_here z))
-
--- what the filling did, and the room as it was at first
-filling : (f : After-fill) → Fills f.args.text.now f.in-Fit.n (cells_of f.args.t.now) f.fill.new.t f.fill.result
-filling f = fills_there f.args.t.now f.empty-emptied.new.t f.empty-emptied.auto.t f.fill.ensures
-
-pub returns-then-fill : goal.returns-then-fill
-returns-then-fill c =
-    let z = (goal.at.returns-then-fill c).After-scan_text-scan in
-    let l = (list_here (goal.at.returns-then-fill c).In-Fit).1 in
-    let w = (filling (goal.at.returns-then-fill c).After-fill).yes c.if-fill.true l.lines l.is_list in
-    as_read _ _ _ _ (imports_all _ (sized_here z) _ _ _ l.lines l.is_list l.fits w.0 w.1)
-
-pub returns-else-fill : goal.returns-else-fill
-returns-else-fill c =
-    let z = (goal.at.returns-else-fill c).After-scan_text-scan in
-    let l = (list_here (goal.at.returns-else-fill c).In-Fit).1 in
-    let w = (filling (goal.at.returns-else-fill c).After-fill).no c.if-fill.false l.lines l.is_list in
-    as_read _ _ _ _
-    (imports_refused _ _ _ _ _ c.refused.ensures.answer
-    (imports_full _ (sized_here z) _ _ _ l.lines l.is_list l.fits w
-    (cleared _ (sized_here z) _ _ (c.fill.auto.t ∙ c.empty-emptied.auto.t) c.refused.ensures.left)))
+pub returns : goal.returns
+returns c =
+    let z = (goal.at.returns c).In_ok-empty in
+    let l = c.in_ok-n.ensures.1 in
+    let w = fills_there c.args.t.now c.empty.new.t c.empty.auto.t c.args.text.now c.in_ok-n.n c.fill.new.t (Ok tt) c.in_default.ensures in
+    let k = w l.lines l.is_list in
+    as_read _ _ _ _ (imports_all _ (sized_here z) _ _ _ l.lines l.is_list l.fits k.0 k.1)

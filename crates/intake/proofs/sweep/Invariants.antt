@@ -8,7 +8,7 @@ use Rattle.intake.proofs.Facets.{CellsTo}
 use Rattle.intake.proofs.sweep.Given as goal
 
 abbrev pub invariant-loop-c : goal.invariant-loop-c
-invariant-loop-c l = (l.room ≡ cells_of l.initial.t) × (length l.t ≡ length l.initial.t) × CellsTo (cells_of l.initial.t) l.initial.t l.before l.t l.m l.c
+invariant-loop-c l = (length l.t ≡ length l.initial.t) × CellsTo (cells_of l.initial.t) l.initial.t l.before l.t l.m l.c
 
 abbrev pub decreases-loop-c : goal.decreases-loop-c
-decreases-loop-c l = 2 * (l.room - l.m) + l.c
+decreases-loop-c l = 2 * (cells_of l.t - l.m) + l.c

@@ -1,8 +1,6 @@
 -- `kernel::bt_merge` meets its contract: it hands on what `merge` ensures. Assumes nothing.
 use Rattle.kernel.proofs.Telling.{filled}
-use Rattle.kernel.specs.Face.{named_code, named_value}
 use Rattle.kernel.proofs.bt_merge.Goals as goal
 
 pub returns : goal.returns
-returns c = filled named_code named_value _ _ _ _ _ _ _ c.merge.ensures c.name_cell.ensures.answer
-    c.name_cell.ensures.left
+returns c = filled _ _ _ _ _ _ _ c.merge.ensures c.tell.ensures

@@ -1,8 +1,6 @@
 -- `kernel::bt_weld` meets its contract: it hands on what `weld` ensures. Assumes nothing.
 use Rattle.kernel.proofs.Telling.{filled}
-use Rattle.kernel.specs.Face.{named_code, named_value}
 use Rattle.kernel.proofs.bt_weld.Goals as goal
 
 pub returns : goal.returns
-returns c = filled named_code named_value _ _ _ _ _ _ _ c.weld.ensures c.name_cell.ensures.answer
-    c.name_cell.ensures.left
+returns c = filled _ _ _ _ _ _ _ c.weld.ensures c.tell.ensures

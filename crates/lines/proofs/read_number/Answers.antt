@@ -1,60 +1,46 @@
--- `read_number` meets its contract. The invariant: the digits passed are those of the value so far. The measure: the bytes left.
--- Assumes nothing.
-use mathlib.Core.Path.{◌≡◌}
-use mathlib.Core.Logic.{inl, inr}
-use Prim.Native.Nat.{ℕ, ◌+◌, ◌≤◌, ◌<◌}
+-- `read_number` meets its contract. The invariant: the digits passed are those of the value so far. Assumes nothing.
+use mathlib.Core.Path.{sym, subst}
+use mathlib.Core.Logic.{inl, inr, ⊎_elim}
+use Prim.Native.Nat.{◌+◌, ◌<◌}
 use native.Mathlib.Omega.{arith}
-use lib.ListN.{get_or}
-use Rattle.partlist.specs.Text.{most_digits, Digit}
-use Rattle.partlist.proofs.Numerals.{room_most}
-use Rattle.lines.proofs.Numbers.{begun_none, begun_more, number_read, none_at_once, none_ended, none_sixth, none_zero}
+use lib.ListN.{get_or, length}
+use Rattle.partlist.specs.Text.{Digit}
+use Rattle.lines.specs.Scans.{ReadsDigit, NumberAt}
+use Rattle.lines.proofs.Numbers.{begun_none, begun_more, number_ended, none_ended, none_sixth, none_zero, inside_rest, after_rest, byte_of_rest}
 use Rattle.lines.proofs.read_number.Goals as goal
-use Rattle.lines.proofs.read_number.Goals.{Then-d-ge10, then-v-eq0+else-k-ne0, else-v-eq0}
+use Rattle.lines.proofs.read_number.Goals.{In-Some, then-k-eq-MOST_DIGITS-via-then-k-eq-MOST_DIGITS, then-k-eq-MOST_DIGITS-via-else-k-eq-MOST_DIGITS+then-v-eq0}
 
-positive : (n : ℕ) → (n ≡ 0 → ⊥) → 1 ≤ n
-positive n h = omega arith
+-- the byte that the turn reads, a digit
+inside : (c : In-Some) → c.args.at + c.loop-k.k < length c.args.text.now
+inside c = inside_rest _ _ _ c.requires c.loop-k-test.true
 
-below_five : (k : ℕ) → k ≤ most_digits → (k ≡ most_digits → ⊥) → k < most_digits
-below_five k h ne = omega arith
-
--- a byte that is no digit
-ended : (c : Then-d-ge10) → Digit (get_or c.args.text.now (c.args.at + c.loop-k.k) 0) → ⊥
-ended c = c.digit_of-d.ensures.none c.if-d-ge10.true
+digit : (c : In-Some) → ReadsDigit (get_or c.args.text.now (c.args.at + c.loop-k.k) 0) c.in-Some.d
+digit c = subst (λ x. ReadsDigit x c.in-Some.d) (byte_of_rest _ _ _ c.requires) c.in-Some.ensures
 
 pub loop-k-init : goal.loop-k-init
 loop-k-init c = begun_none c.args.text.now c.args.at c.requires
 
-pub returns-then-k-eq0 : goal.returns-then-k-eq0
-returns-then-k-eq0 c =
-    none_at_once _ _ _ _ c.loop-k.invariant c.loop-k-test.true c.if-k-eq0.true (ended (goal.at.returns-then-k-eq0 c).Then-d-ge10)
-
-pub returns-then-d-ge10 : goal.returns-then-d-ge10
-returns-then-d-ge10 c =
-    number_read _ _ _ _ c.loop-k.invariant c.loop-k-test.true (positive _ c.if-k-eq0.false) (ended (goal.at.returns-then-d-ge10 c).Then-d-ge10)
+pub returns-in_default : goal.returns-in_default
+returns-in_default c =
+    subst (NumberAt c.args.text.now c.args.at) (sym c.then_some.ensures)
+    (number_ended _ _ _ _ c.loop-k.invariant (inside_rest _ _ _ c.requires c.loop-k-test.true)
+    (subst (λ x. Digit x → ⊥) (byte_of_rest _ _ _ c.requires) c.in_default.ensures))
 
 pub returns-then-k-eq-MOST_DIGITS : goal.returns-then-k-eq-MOST_DIGITS
 returns-then-k-eq-MOST_DIGITS c =
-    none_sixth _ _ _ _ c.loop-k.invariant _ c.loop-k-test.true c.if-k-eq-MOST_DIGITS.true c.digit_of-d.ensures c.if-d-ge10.false
-
-pub returns-then-k-ne0 : goal.returns-then-k-ne0
-returns-then-k-ne0 c =
-    none_zero _ _ _ _ c.loop-k.invariant _ c.loop-k-test.true c.if-v-eq0.true c.if-k-ne0.true c.digit_of-d.ensures c.if-d-ge10.false
-
-pub overflow_mul-v : goal.overflow_mul-v
-overflow_mul-v c =
-    let l = c.loop-k in
-    omega (arith, l.invariant.small, room_most l.k l.invariant.few)
-
-pub overflow_add-v : goal.overflow_add-v
-overflow_add-v c =
-    let l = c.loop-k in
-    omega (arith, l.invariant.small, room_most l.k l.invariant.few, c.if-d-ge10.false)
+    let f = (goal.at.returns-then-k-eq-MOST_DIGITS c).In-Some in
+    elim c.then-k-eq-MOST_DIGITS.branch [
+      | then-k-eq-MOST_DIGITS-via-then-k-eq-MOST_DIGITS w ↦ none_sixth _ _ _ _ c.loop-k.invariant _ (inside f) w.if-k-eq-MOST_DIGITS.true (digit f)
+      | then-k-eq-MOST_DIGITS-via-else-k-eq-MOST_DIGITS+then-v-eq0 w ↦
+          none_zero _ _ _ _ c.loop-k.invariant _ (inside f) w.if-v-eq0.true.1 (λ z. omega (arith, w.if-v-eq0.true.0)) (digit f)
+    ]
 
 pub loop-k-preserved : goal.loop-k-preserved
 loop-k-preserved c =
     let l = c.loop-k in
-    begun_more _ _ _ _ l.invariant _ c.loop-k-test.true (below_five _ l.invariant.few c.if-k-eq-MOST_DIGITS.false) c.digit_of-d.ensures c.if-d-ge10.false
-    (elim c.if-v-eq0.branch [ then-v-eq0+else-k-ne0 w ↦ inl w.if-k-ne0.false | else-v-eq0 w ↦ inr (positive _ w.if-v-eq0.false) ])
+    let f = (goal.at.loop-k-preserved c).In-Some in
+    begun_more _ _ _ _ l.invariant _ (inside f) (omega (arith, l.invariant.few, c.if-k-eq-MOST_DIGITS.false)) (digit f)
+    (⊎_elim (λ h. inr (omega (arith, h.1))) (λ h. inl (omega arith)) c.if-v-eq0.either)
 
 pub returns : goal.returns
-returns c = none_ended _ _ _ _ c.loop-k.invariant c.loop-k-test.false
+returns c = none_ended _ _ _ _ c.loop-k.invariant (after_rest _ _ _ c.requires c.loop-k-test.false)

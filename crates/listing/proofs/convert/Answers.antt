@@ -1,17 +1,17 @@
--- `convert` meets its contract: an accepted list leaves a valid table, which is written; else the refusal's line. Assumes nothing.
-use Rattle.listing.proofs.Fronts.{blank_valid, blank_verdict, blank_left, converted_file, converted_line}
-use mathlib.Core.Path.{sym, ◌∙◌}
+-- `convert` meets its contract: a text that is too long, a list that is refused, and the file of one that is accepted. Assumes nothing.
+use Rattle.std.proofs.Common.{arith, rules, sym, ◌∙◌}
+use Rattle.std.proofs.lemmas.Result.{err_from_is_err_and}
+use Rattle.listing.proofs.Fronts.{too_long, refused_list, written_list}
 use Rattle.listing.proofs.convert.Goals as goal
 
-pub put_file-requires : goal.put_file-requires
-put_file-requires c =
-    (blank_valid _ _ _ _ c.requires.0 c.import-verdict.ensures c.in-Accepted.is, c.requires.1)
+pub returns-then-text-gt-LONGEST_TEXT : goal.returns-then-text-gt-LONGEST_TEXT
+returns-then-text-gt-LONGEST_TEXT c = too_long _ _ (omega (arith, c.if-text-gt-LONGEST_TEXT.true))
 
-pub returns-in-Accepted : goal.returns-in-Accepted
-returns-in-Accepted c =
-    let e = c.import-verdict.ensures in
-    converted_file _ _ _ _ (sym (blank_verdict _ _ _ _ c.requires.0 e) ∙ c.in-Accepted.is) (blank_left _ _ _ _ c.requires.0 e) c.put_file.ensures
+pub returns-in_err-import : goal.returns-in_err-import
+returns-in_err-import c =
+    let p = err_from_is_err_and c.from_residual.result c.from_residual.ensures.1 in
+    rw (p.1, p.2) (refused_list _ c.if-text-gt-LONGEST_TEXT.false _ _ (sym c.import.ensures.answer ∙ c.in_err-import.was))
 
-pub returns-in-Refused : goal.returns-in-Refused
-returns-in-Refused c =
-    converted_line _ _ _ _ (sym (blank_verdict _ _ _ _ c.requires.0 c.import-verdict.ensures) ∙ c.in-Refused.is) c.put_line.ensures
+pub returns : goal.returns
+returns c =
+    written_list _ c.if-text-gt-LONGEST_TEXT.false _ _ _ _ (search rules) (sym c.import.ensures.answer ∙ c.in_ok-import.was) c.import.ensures.left c.write.ensures

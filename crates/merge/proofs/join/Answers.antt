@@ -1,17 +1,20 @@
--- `merge::join` meets its contract. The invariant: the pass stands before record c. The measure: the records left.
--- Assumes nothing.
+-- `merge::join` meets its contract. The invariant: the pass stands before record c. Assumes nothing.
 use borrow.Author.Rules.{rules}
-use native.Mathlib.Omega.{arith}
 use lib.ListN.{get_or-replicate}
 use Rattle.table.specs.Kind.{faces, free_mark}
-use Rattle.merge.proofs.Passes.{begun_start, partly_end}
+use Rattle.merge.proofs.Passes.{begins_none, begun_start, begun_more, partly_end}
 use Rattle.merge.proofs.join.Goals as goal
 
 pub loop-c-init : goal.loop-c-init
-loop-c-init c = (omega arith, begun_start _ _ _ c.requires.2)
+loop-c-init c = begun_start _ _ _ c.requires.2
+
+pub rename-requires : goal.rename-requires
+rename-requires c = (search rules, begins_none _ _ _ _ _ _ (search rules) c.loop-c.invariant)
+
+pub loop-c-preserved : goal.loop-c-preserved
+loop-c-preserved c = begun_more _ _ _ _ _ _ (search rules) c.loop-c.invariant c.rename.ensures
 
 pub returns : goal.returns
 returns c =
-    let b = c.rename_run-2.ensures _ c.loop-c.invariant.1 in
-    partly_end _ _ _ _ _ _ _ (search rules) (search rules) b.done c.put.ensures
+    partly_end _ _ _ _ _ _ _ c.requires.0 (search rules) c.loop-c.invariant.done c.put.ensures
     (λ j h. get_or-replicate faces j free_mark 0 h)

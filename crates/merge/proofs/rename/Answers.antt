@@ -1,7 +1,6 @@
--- `merge::rename` meets its contract: the dimension is not the number that it is compared with, so it stays. The invariant: the words
--- below l are the record's faces, sent on. The measure: the places left. Assumes nothing.
+-- `merge::rename` meets its contract: the dimension is not the number that it is compared with, so it stays. Assumes nothing.
 use mathlib.Core.Path.{sym, ◌∙◌}
-use native.Mathlib.Omega.{arith}
+use borrow.Author.Rules.{rules}
 use Rattle.table.proofs.Stores.{stored_alike}
 use Rattle.merge.proofs.Passes.{sent_stays}
 use Rattle.merge.proofs.rename.Goals as goal
@@ -12,7 +11,7 @@ returns c =
     let other = c.requires.1 in
     stored_alike
     (record {
-      same_dim = c.sent-p.ensures ∙ sent_stays _ _ _ (λ e. other (sym read ∙ e)) ∙ read;
-      same_face = λ j h. c.loop-l.invariant.2 j (omega arith);
+      same_dim = c.sent-dim.ensures ∙ sent_stays _ _ _ (λ e. other (sym read ∙ e)) ∙ read;
+      same_face = λ j h. search (c.map-faces.ensures.items.at j 0 0 h, c.faces.ensures, rules);
     })
     c.put.ensures

@@ -1,7 +1,6 @@
--- `reading::add_cell` meets its contract. The invariant: every number has what the places passed add to it, and the length is kept.
--- The measure: what is left of the places. Assumes nothing.
+-- `reading::add_cell` meets its contract. The invariant: every number has what the places passed add to it. Assumes nothing.
 use mathlib.Core.Path.{◌≡◌}
-use Prim.Native.Nat.{ℕ, ◌-◌, ◌≤◌, ◌<◌}
+use Prim.Native.Nat.{ℕ, ◌<◌}
 use lib.ListN.{length, get_or}
 use lib.IntN.{pos}
 use Rattle.reading.specs.Steps.{added}
@@ -9,7 +8,4 @@ use Rattle.reading.proofs.add_cell.Given as goal
 
 abbrev pub invariant-loop-j : goal.invariant-loop-j
 invariant-loop-j l =
-    (l.j ≤ l.used) × (length l.res ≡ length l.initial.res) × ((u : ℕ) → u < length l.res → get_or l.res u (pos 0) ≡ added l.t l.c l.x l.initial.res l.j u)
-
-abbrev pub decreases-loop-j : goal.decreases-loop-j
-decreases-loop-j l = l.used - l.j
+    (u : ℕ) → u < length l.res → get_or l.res u (pos 0) ≡ added l.t l.c l.x l.initial.res l.j u

@@ -1,15 +1,9 @@
--- `reading::add_cells` meets its contract. The invariant: the result is the boundary of the cells passed. The measure: what is left of
--- the chain. Assumes nothing.
+-- `reading::add_cells` meets its contract. The invariant: the result is the boundary of the cells passed. Assumes nothing.
 use mathlib.Core.Path.{◌≡◌}
-use Prim.Native.Nat.{◌-◌, ◌≤◌}
-use lib.ListN.{length}
 use Rattle.table.specs.Table.{cells_of}
 use Rattle.reading.specs.Sums.{integers}
 use Rattle.reading.specs.Boundary.{coefficient, reached}
 use Rattle.reading.proofs.add_cells.Given as goal
 
 abbrev pub invariant-loop-c : goal.invariant-loop-c
-invariant-loop-c l = (l.c ≤ length l.chain) × (l.c-end ≡ length l.chain) × (l.res ≡ integers (cells_of l.t) (reached l.t l.p (coefficient l.chain) l.c))
-
-abbrev pub decreases-loop-c : goal.decreases-loop-c
-decreases-loop-c l = l.c-end - l.c
+invariant-loop-c l = l.res ≡ integers (cells_of l.t) (reached l.t l.p (coefficient l.chain) l.c)

@@ -1,34 +1,14 @@
--- `reading::coefficients_small` meets its contract. The invariant: every coefficient passed is small. The measure: what is left of
--- the chain. Assumes nothing.
-use mathlib.Core.Path.{refl, ◌∙◌}
-use native.Mathlib.Omega.{arith}
-use borrow.Author.Rules.{rules}
-use lib.ListN.{get_or}
-use lib.IntN.{pos}
-use Rattle.reading.proofs.Lists.{all_zero, all_keeps}
-use Rattle.reading.proofs.Testing.{small_answer, small_stops, small_ends, small_at}
+-- `reading::coefficients_small` meets its contract: the chain tests each coefficient. Assumes nothing.
+use Rattle.std.proofs.Common.{rules, ◌≡◌, true, false}
+use borrow.Author.Tests.{tests}
+use lib.IntN.{nat_abs}
+use lib.Dec.{leb}
+use Rattle.std.proofs.lemmas.Iterator.{cases_from_all, YieldsList-from_slice}
+use Rattle.reading.specs.Boundary.{limit}
+use Rattle.reading.proofs.Testing.{small_all}
 use Rattle.reading.proofs.coefficients_small.Goals as goal
-
-pub loop-c-init : goal.loop-c-init
-loop-c-init c = (search rules, refl, all_zero (small_at c.args.chain.now))
-
-pub returns-then-not-small : goal.returns-then-not-small
-returns-then-not-small c =
-    let a = c.args in
-    small_stops a.chain.now c.loop-c.c c.loop-c-test.true
-    (small_answer (get_or a.chain.now c.loop-c.c (pos 0)) c.small.result _ (search rules) c.small.ensures (c.if-not-small.true))
-
-pub loop-c-preserved : goal.loop-c-preserved
-loop-c-preserved c =
-    let a = c.args in (
-      omega arith,
-      refl,
-      all_keeps (small_at a.chain.now) c.loop-c.c
-          (small_answer (get_or a.chain.now c.loop-c.c (pos 0)) c.small.result _ (search rules) c.small.ensures (c.if-not-small.false))
-          ∙ c.loop-c.invariant.2,
-    )
 
 pub returns : goal.returns
 returns c =
-    let a = c.args in
-    small_ends a.chain.now c.loop-c.c c.loop-c.invariant.0 c.loop-c-test.false c.loop-c.invariant.2
+    small_all _ _
+    (cases_from_all _ _ _ (λ z. leb (nat_abs z) limit ≡ true) (λ z. leb (nat_abs z) limit ≡ false) c.all.ensures.ran (YieldsList-from_slice c.args.chain.now cc) (λ x q k. search (rules, tests)) (λ x q k. search (rules, tests)))

@@ -1,54 +1,54 @@
 -- `reading::places_sum` meets its contract: the place lies within the record, and what was read there is its face. Assumes nothing.
 use mathlib.Core.Path.{sym, ap, ◌∙◌}
-use Prim.Native.Nat.{◌<◌}
 use native.Mathlib.Omega.{arith}
-use borrow.Author.Rules.{rules}
 use mir.Syntax.{w64}
 use mir.Val.{to_z}
-use Rattle.table.proofs.Records.{faces_at}
-use Rattle.table.specs.Kind.{faces, used}
+use Rattle.table.specs.Kind.{used}
 use Rattle.reading.proofs.SumLaws.{sum_none}
-use Rattle.reading.proofs.Incidences.{up_fits, down_fits, counts_up, counts_down, counts_not, all_counted, place_sign}
+use Rattle.table.proofs.Slices.{taken}
+use Rattle.reading.proofs.Incidences.{few_taken, face_here, up_fits, down_fits, counts_up, counts_down, counts_not, all_counted, place_sign}
 use Rattle.reading.proofs.places_sum.Goals as goal
-use Rattle.reading.proofs.places_sum.Goals.{then-faces-j+then-j-eq0, then-faces-j+else-j-eq0, else-faces-j}
+use Rattle.reading.proofs.places_sum.Goals.{then-f-u+then-j-eq0, then-f-u+else-j-eq0, else-f-u}
 
 pub loop-j-init : goal.loop-j-init
-loop-j-init c =
-    let a = c.args in
-    (search rules, sym (sum_none (place_sign a.t.now a.s a.u)))
+loop-j-init c = let a = c.args in sym (sum_none (place_sign a.t.now a.s a.u))
 
 pub overflow_add-sum : goal.overflow_add-sum
 overflow_add-sum c =
     let a = c.args in
-    let l = c.loop-j in
-    let few : l.j < faces = omega (arith, c.loop-j-test.true, c.used-places.ensures.1) in
-    up_fits a.t.now a.s a.u (to_z w64 l.sum-bits) l.j _ few (faces_at a.t.now a.s c.faces-faces.result c.faces-faces.ensures l.j few) l.invariant.1
+    let e = c.faces-faces.ensures in
+    let m = c.used-places.ensures.1 in
+    let l = c.loop-j-test.true in
+    up_fits a.t.now a.s a.u (to_z w64 c.loop-j.sum-bits) c.loop-j.j _ (few_taken a.t.now a.s e m l) (face_here a.t.now a.s e m l) c.loop-j.invariant
 
 pub overflow_sub-sum : goal.overflow_sub-sum
 overflow_sub-sum c =
     let a = c.args in
-    let l = c.loop-j in
-    let few : l.j < faces = omega (arith, c.loop-j-test.true, c.used-places.ensures.1) in
-    down_fits a.t.now a.s a.u (to_z w64 l.sum-bits) l.j _ few (faces_at a.t.now a.s c.faces-faces.result c.faces-faces.ensures l.j few) l.invariant.1
+    let e = c.faces-faces.ensures in
+    let m = c.used-places.ensures.1 in
+    let l = c.loop-j-test.true in
+    down_fits a.t.now a.s a.u (to_z w64 c.loop-j.sum-bits) c.loop-j.j _ (few_taken a.t.now a.s e m l) (face_here a.t.now a.s e m l) c.loop-j.invariant
 
 pub loop-j-preserved : goal.loop-j-preserved
 loop-j-preserved c =
     let a = c.args in
-    let l = c.loop-j in
-    let few : l.j < faces = omega (arith, c.loop-j-test.true, c.used-places.ensures.1) in
-    let at = faces_at a.t.now a.s c.faces-faces.result c.faces-faces.ensures l.j few in (
-      omega arith,
-      elim c.if-faces-j.branch [
-        | then-faces-j+then-j-eq0 w ↦
-            w.sum-is ∙ counts_up a.t.now a.s a.u (to_z w64 l.sum-bits) l.j _ few at l.invariant.1 w.if-faces-j.true w.if-j-eq0.true
-        | then-faces-j+else-j-eq0 w ↦
-            w.sum-is ∙ counts_down a.t.now a.s a.u (to_z w64 l.sum-bits) l.j _ few at l.invariant.1 w.if-faces-j.true w.if-j-eq0.false
-        | else-faces-j w ↦
-            w.sum-is ∙ counts_not a.t.now a.s a.u (to_z w64 l.sum-bits) l.j _ few at l.invariant.1 w.if-faces-j.false
-      ],
-    )
+    let z = to_z w64 c.loop-j.sum-bits in
+    let e = c.faces-faces.ensures in
+    let m = c.used-places.ensures.1 in
+    let l = c.loop-j-test.true in
+    let few = few_taken a.t.now a.s e m l in
+    let at = face_here a.t.now a.s e m l in
+    elim c.if-f-u.branch [
+      | then-f-u+then-j-eq0 w ↦
+          w.sum-is ∙ counts_up a.t.now a.s a.u z c.loop-j.j _ few at c.loop-j.invariant w.if-f-u.true w.if-j-eq0.true
+      | then-f-u+else-j-eq0 w ↦
+          w.sum-is ∙ counts_down a.t.now a.s a.u z c.loop-j.j _ few at c.loop-j.invariant w.if-f-u.true w.if-j-eq0.false
+      | else-f-u w ↦ w.sum-is ∙ counts_not a.t.now a.s a.u z c.loop-j.j _ few at c.loop-j.invariant w.if-f-u.false
+    ]
 
 pub returns : goal.returns
 returns c =
     let a = c.args in
-    all_counted a.t.now a.s a.u c.loop-j.j c.used-places.result (to_z w64 c.loop-j.sum-bits) (c.used-places.ensures.0 ∙ ap used c.dim.ensures) c.loop-j.invariant.0 c.loop-j-test.false c.loop-j.invariant.1
+    let m = taken a.t.now a.s c.faces-faces.ensures c.used-places.ensures.1 in
+    all_counted a.t.now a.s a.u c.loop-j.j c.used-places.result (to_z w64 c.loop-j.sum-bits) (c.used-places.ensures.0 ∙ ap used c.dim.ensures)
+    (omega (arith, m)) (omega (arith, m)) c.loop-j.invariant

@@ -4,8 +4,8 @@ use Rattle.complex.proofs.Frames.{valid_is_frame}
 use Rattle.reducer.proofs.Verdicts.{accepted_valid, accepted_long}
 use Rattle.reducer.proofs.reduce.Goals as goal
 
-pub fill-requires-clause-frame : goal.fill-requires-clause-frame
-fill-requires-clause-frame c = valid_is_frame _ (accepted_valid _ _ (sym c.judge-v.ensures ∙ c.in-Accepted.is))
+pub invariant_of-fill : goal.invariant_of-fill
+invariant_of-fill c = record { frame = valid_is_frame _ (accepted_valid _ _ (sym c.judge.ensures ∙ c.in_ok-judge.was)) }
 
-pub fill-requires-clause-evidence_len : goal.fill-requires-clause-evidence_len
-fill-requires-clause-evidence_len c = accepted_long _ _ (sym c.judge-v.ensures ∙ c.in-Accepted.is)
+pub fill-requires : goal.fill-requires
+fill-requires c = accepted_long _ _ (sym c.judge.ensures ∙ c.in_ok-judge.was)

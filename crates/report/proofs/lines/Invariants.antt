@@ -1,14 +1,12 @@
--- `lines` meets its contract. The invariant: the lines of the dimensions passed are in the text. The measure: the dimensions left.
--- Assumes nothing.
-use Prim.Native.Nat.{◌-◌, ◌≤◌}
-use lib.ListN.{get_or}
-use Rattle.table.specs.Kind.{dimensions}
-use Rattle.report.specs.Lines.{line}
-use Rattle.report.proofs.Growing.{HasLines}
+-- `lines`. The invariant: the lines of the dimensions passed are the text.
+use Rattle.std.proofs.Common.{◌≡◌, ◌≤◌, ◌*◌, get_or, length}
+use Rattle.sketch.specs.Form.{pieces}
+use Rattle.report.specs.Lines.{line, longest_line}
 use Rattle.report.proofs.lines.Given as goal
 
 abbrev pub invariant-loop-p : goal.invariant-loop-p
-invariant-loop-p l = (l.p ≤ dimensions) × HasLines (λ q. line q (get_or l.cells q 0) (get_or l.holes q 0)) l.p l.r
-
-abbrev pub decreases-loop-p : goal.decreases-loop-p
-decreases-loop-p l = dimensions - l.p
+invariant-loop-p l =
+    record {
+      text : l.text ≡ pieces (λ q. line q (get_or l.counts.cells q 0) (get_or l.counts.holes q 0)) l.p;
+      short : length l.text ≤ longest_line * l.p;
+    }

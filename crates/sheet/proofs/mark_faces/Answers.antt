@@ -1,17 +1,21 @@
--- `sheet::mark_faces` meets its contract. The invariant: the counters are those of the cells below c and of its places below j, and as
--- many as they were. The measure: what is left of the places. Assumes nothing.
-use mathlib.Core.Path.{refl}
+-- `sheet::mark_faces` meets its contract: each place is that of a face, which is marked. Assumes nothing.
 use native.Mathlib.Omega.{arith}
-use Rattle.sheet.proofs.Counters.{counting_starts, mark_turn, counting_ends}
+use Rattle.table.proofs.Slices.{taken}
+use Rattle.sheet.proofs.Counters.{counting_starts, face_named, mark_turn, counting_ends}
 use Rattle.sheet.proofs.mark_faces.Goals as goal
 
-pub loop-j-init : goal.loop-j-init
-loop-j-init c = (omega arith, (refl, counting_starts _ _ _ _ c.requires.2))
+pub loop-f-init : goal.loop-f-init
+loop-f-init c = counting_starts _ _ _ c.requires.next.counted
 
-pub loop-j-preserved : goal.loop-j-preserved
-loop-j-preserved c =
-    let i = c.loop-j.invariant.1 in
-    (omega arith, mark_turn _ _ _ _ _ _ i.1 c.named-f.ensures c.args.sides.now i.0 c.requires.3)
+pub bounds-sides-f : goal.bounds-sides-f
+bounds-sides-f c =
+    omega (arith, (face_named c.requires.next c.faces.ensures c.places.ensures c.loop-f-test.true).living.inside, c.loop-f.invariant.room)
+
+pub loop-f-preserved : goal.loop-f-preserved
+loop-f-preserved c =
+    mark_turn _ _ _ _ _ c.loop-f.invariant (face_named c.requires.next c.faces.ensures c.places.ensures c.loop-f-test.true) c.requires.lower
 
 pub returns : goal.returns
-returns c = counting_ends _ _ _ _ _ c.loop-j.invariant.1.1 (omega arith)
+returns c =
+    let m = taken c.args.t.now c.args.c c.faces.ensures c.places.ensures.1 in
+    counting_ends _ _ _ _ c.loop-f.invariant (omega (arith, c.places.ensures.0))

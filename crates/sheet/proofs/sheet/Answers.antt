@@ -5,4 +5,4 @@ use Rattle.sheet.proofs.sheet.Goals as goal
 
 pub is_sheet-requires : goal.is_sheet-requires
 is_sheet-requires c =
-    (audit_accepts_iff_valid c.args.t.now).0 (sym c.audit-found.ensures ∙ c.in-Accepted.is)
+    (audit_accepts_iff_valid c.args.t.now).0 (sym c.audit.ensures ∙ c.in_ok-audit.was)

@@ -1,37 +1,63 @@
--- `weld::join_places` meets its contract. The invariant: the words hold the map with the places below j joined. The measure: the
--- places left. Assumes nothing.
+-- `weld::join_places` meets its contract. The invariant: the words hold the map with the places below j joined. Assumes nothing.
+use mathlib.Core.Path.{◌≡◌, ap, sym, subst, ◌∙◌}
+use Prim.Native.Nat.{ℕ, ◌<◌}
 use borrow.Author.Rules.{rules}
-use mathlib.Core.Path.{refl, sym, subst, ◌∙◌, ◌≡◌, ap}
 use native.Mathlib.Omega.{arith}
-use Rattle.weld.specs.Maps.{Maps}
-use Rattle.weld.proofs.Passing.{places_none, places_more, face_inside, other_inside}
+use lib.ListN.{length, get_or, take}
+use lib.Seq.{get_or-take}
 use Rattle.table.specs.Kind.{used as used_of}
-use Rattle.table.specs.Table.{dim}
+use Rattle.table.specs.Table.{cells_of, dim, face}
+use Rattle.table.proofs.Records.{faces_at}
+use Rattle.weld.specs.Joins.{join_places}
+use Rattle.weld.specs.Maps.{Maps, Becomes}
+use Rattle.weld.proofs.Passing.{becomes_at, places_none, places_more, face_inside, other_inside}
 use Rattle.weld.proofs.join_places.Goals as goal
-use Rattle.weld.proofs.join_places.Goals.{After-used-used}
+use Rattle.weld.proofs.join_places.Goals.{After-faces-ys, In-loop-j}
+
+-- as many places are joined as are used
+places : (c : After-faces-ys) → length (take c.used-used.result c.faces-xs.result) ≡ used_of (dim c.args.t.now c.args.c)
+places c =
+    let few : length (take c.used-used.result c.faces-xs.result) ≡ c.used-used.result = search (rules, c.used-used.ensures.1, c.faces-xs.ensures) in
+    few ∙ c.used-used.ensures.0 ∙ ap used_of c.dim.ensures
+
+-- the two faces at place j
+module _ (c : In-loop-j) (n : length (take c.used-used.result c.faces-xs.result) ≡ used_of (dim c.args.t.now c.args.c)) where
+  low : c.loop-j.j < used_of (dim c.args.t.now c.args.c)
+  low = omega (arith, n, c.loop-j-test.true)
+
+  one : get_or (take c.used-used.result c.faces-xs.result) c.loop-j.j 0 ≡ face c.args.t.now c.args.c c.loop-j.j
+  one =
+      get_or-take c.used-used.result c.faces-xs.result c.loop-j.j 0 (omega (arith, low, c.used-used.ensures.0, c.dim.ensures, ap used_of c.dim.ensures))
+      ∙ faces_at _ _ _ c.faces-xs.ensures c.loop-j.j (omega (arith, low, c.used-used.ensures, ap used_of c.dim.ensures))
+
+  other : get_or c.faces-ys.result c.loop-j.j 0 ≡ face c.args.t.now c.args.d c.loop-j.j
+  other = faces_at _ _ _ c.faces-ys.ensures c.loop-j.j (omega (arith, low, c.used-used.ensures, ap used_of c.dim.ensures))
 
 pub loop-j-init : goal.loop-j-init
-loop-j-init c =
-    let ready = c.requires.0 in
-    let n = sym c.room-n.ensures in
-    (omega arith, refl, places_none _ _ _ _ _ (subst (λ m. Maps m c.args.k.now) n ready.maps))
+loop-j-init c = places_none _ _ _ _ _ c.requires.0.maps
 
 pub loop-j-preserved : goal.loop-j-preserved
 loop-j-preserved c =
-    let l = c.loop-j in (
-      search rules,
-      c.join.auto.k ∙ l.invariant.1,
-      places_more _ _ _ _ l.j _ _ _ l.k _ l.invariant.2 c.face-x.ensures c.face-y.ensures c.join.ensures,
-    )
-
-places : (c : After-used-used) → c.used-used.result ≡ used_of (dim c.args.t.now c.args.c)
-places c = c.used-used.ensures.0 ∙ ap used_of c.dim.ensures
+    let g = goal.at.loop-j-preserved c in
+    let n = places g.After-faces-ys in
+    let b = c.loop-j.invariant in
+    places_more _ _ _ _ _ _ _ _ _ _ b (one g.In-loop-j n) (other g.In-loop-j n) (becomes_at _ _ _ _ _ b.maps.size c.join.ensures)
 
 pub join-requires : goal.join-requires
 join-requires c =
+    let g = goal.at.join-requires c in
+    let n = places g.After-faces-ys in
     let p = c.requires in
-    let n = c.room-n.ensures in
-    let v = p.0.valid in
-    let inside = face_inside _ _ _ v p.1 p.2 p.3 _ _ c.face-x.ensures (omega (arith, places (goal.at.join-requires c).After-used-used)) in
-    let other = other_inside _ _ _ v p.1 p.2 p.3 _ _ c.face-y.ensures (omega (arith, places (goal.at.join-requires c).After-used-used)) in
-    (c.loop-j.invariant.2.maps, omega (arith, n, inside), omega (arith, n, other))
+    let m = c.loop-j.invariant.maps in (
+      subst (λ n. Maps n c.loop-j.k) (sym m.size) m,
+      omega (arith, m.size, face_inside _ _ _ p.0.valid p.1 p.2 p.3 _ _ (one g.In-loop-j n) (low g.In-loop-j n)),
+      omega (arith, m.size, other_inside _ _ _ p.0.valid p.1 p.2 p.3 _ _ (other g.In-loop-j n) (low g.In-loop-j n)),
+    )
+
+pub returns : goal.returns
+returns c =
+    let e = places (goal.at.returns c).After-faces-ys in
+    let a = c.args in
+    subst (λ (j : ℕ). Becomes (cells_of a.t.now) (join_places a.t.now a.c a.d j) a.k.now c.loop-j.k)
+    (omega (arith, e, c.loop-j-test.false, c.loop-j.auto.j-end))
+    c.loop-j.invariant

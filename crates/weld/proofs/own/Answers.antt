@@ -1,9 +1,7 @@
--- `weld::own` meets its contract. The invariant: the words below c are their own numbers. The measure: the words left. Assumes nothing.
-use borrow.Author.Rules.{rules}
+-- `weld::own` meets its contract. The invariant: the words below c are their own numbers. Assumes nothing.
 use Rattle.weld.proofs.Writing.{own_all}
+use borrow.Author.Rules.{rules}
 use Rattle.weld.proofs.own.Goals as goal
 
 pub returns : goal.returns
-returns c =
-    let l = c.loop-c in
-    own_all _ l.c _ l.k (search rules) c.loop-c-test.false l.invariant.2
+returns c = own_all _ _ _ _ (search rules) (search rules) c.loop-c.invariant

@@ -1,14 +1,9 @@
--- `weld::rename_all` meets its contract. The invariant: the records below c are renamed. The measure: the records left. Assumes nothing.
+-- `weld::rename_all` meets its contract. The invariant: the records below c are renamed. Assumes nothing.
 use mathlib.Core.Path.{◌≡◌}
-use Prim.Native.Nat.{◌-◌, ◌≤◌}
-use lib.ListN.{length}
 use Rattle.table.specs.Table.{cells_of}
 use Rattle.weld.specs.Maps.{map_of}
 use Rattle.weld.proofs.Writing.{partly}
 use Rattle.weld.proofs.rename_all.Given as goal
 
 abbrev pub invariant-loop-c : goal.invariant-loop-c
-invariant-loop-c l = (l.c ≤ l.n) × (length l.t ≡ length l.initial.t) × (l.t ≡ partly (map_of (cells_of l.initial.t) l.k) l.initial.t l.c)
-
-abbrev pub decreases-loop-c : goal.decreases-loop-c
-decreases-loop-c l = l.n - l.c
+invariant-loop-c l = l.t ≡ partly (map_of (cells_of l.initial.t) l.k) l.initial.t l.c

@@ -1,5 +1,4 @@
--- `writer::body_starts` meets its contract. The invariant: the starts up to p are there. The measure: the dimensions left.
--- Assumes nothing.
+-- `writer::body_starts` meets its contract. The invariant: the starts up to p are there. Assumes nothing.
 use native.Mathlib.Omega.{arith}
 use Rattle.table.specs.Kind.{dimensions}
 use Rattle.writer.specs.Put.{in_array}
@@ -7,16 +6,15 @@ use Rattle.writer.proofs.Starts.{start_more, starts_first, starts_more, starts_a
 use Rattle.writer.proofs.body_starts.Goals as goal
 
 pub loop-p-init : goal.loop-p-init
-loop-p-init c = (omega arith, starts_first _)
+loop-p-init c = starts_first _
 
 pub next_start-requires : goal.next_start-requires
 next_start-requires c =
     let l = c.loop-p in
-    (omega arith, omega (arith, start_more (in_array c.args.counts) l.p dimensions c.loop-p-test.true c.requires, l.invariant.1.each l.p (omega arith)))
+    (omega arith, omega (arith, start_more (in_array c.args.counts) l.p dimensions c.loop-p-test.true c.requires, l.invariant.each l.p (omega arith)))
 
 pub loop-p-preserved : goal.loop-p-preserved
-loop-p-preserved c =
-    (omega arith, starts_more c.loop-p.invariant.1 _ c.loop-p-test.true c.next_start.ensures)
+loop-p-preserved c = starts_more c.loop-p.invariant _ c.loop-p-test.true c.next_start.ensures
 
 pub returns : goal.returns
-returns c = starts_all c.loop-p.invariant.1 c.loop-p-test.false
+returns c = starts_all c.loop-p.invariant c.loop-p-test.false

@@ -1,13 +1,8 @@
 -- `writer::put_entry` meets its contract: the offset goes where the count ended. Assumes nothing.
-use native.Mathlib.Omega.{arith}
-use Rattle.sketch.proofs.Bytes.{length_two}
-use Rattle.writer.proofs.Pasting.{put_then}
+use mathlib.Core.Path.{◌∙◌}
+use Rattle.writer.proofs.Pasting.{put_as, put_then, two_bytes, four_bytes}
 use Rattle.writer.proofs.put_entry.Goals as goal
-
-pub put_four-requires : goal.put_four-requires
-put_four-requires c =
-    omega (arith, length_two c.args.count)
 
 pub returns : goal.returns
 returns c =
-    put_then c.put_two-middle.ensures c.put_four.ensures
+    put_then (put_as (c.to_le_bytes.ensures ∙ two_bytes _) c.put-middle.ensures) (put_as (c.to_le_bytes-2.ensures ∙ four_bytes _) c.put.ensures)

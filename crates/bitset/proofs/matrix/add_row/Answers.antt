@@ -1,20 +1,8 @@
--- `add_row` meets its contract, at the full width and at any other: the words added are the row. Assumes nothing.
-use mathlib.Core.Path.{subst}
-use Prim.Native.Nat.{ℕ, ◌+◌, ◌*◌, ◌≤◌}
-use lib.ListN.{length}
-use Rattle.bitset.specs.Bits.{full_width}
+-- `add_row` meets its contract: the words are split at the row, and the earlier one is added to it. Assumes nothing.
 use Rattle.bitset.proofs.RowLaws.{row_added}
 use Rattle.bitset.proofs.matrix.add_row.Goals as goal
-use Rattle.bitset.proofs.matrix.add_row.Goals.{Then-w-eq-FULL}
-
--- at the full width, row c ends inside the words
-room_full : (c : Then-w-eq-FULL) → c.args.c * full_width + full_width ≤ length c.args.ws.now
-room_full c = subst (λ (u : ℕ). c.args.c * u + u ≤ length c.args.ws.now) c.if-w-eq-FULL.true c.requires.w_in_bounds
-
-pub returns-then-w-eq-FULL : goal.returns-then-w-eq-FULL
-returns-then-w-eq-FULL c =
-    rw c.if-w-eq-FULL.true (row_added full_width _ _ _ _ c.requires.a_lt_c (room_full (goal.at.returns-then-w-eq-FULL c).Then-w-eq-FULL) c.add_words.ensures)
 
 pub returns : goal.returns
 returns c =
-    row_added _ _ _ _ _ c.requires.a_lt_c c.requires.w_in_bounds c.add_words-2.ensures
+    let parts = c.split_at_mut-earlier.ensures in
+    row_added _ _ _ _ _ _ _ c.requires.a_lt_c c.requires.w_in_bounds parts.front parts.back cc

@@ -1,6 +1,8 @@
--- `start_row` meets its contract: one word of the row is stored. Assumes nothing.
-use Rattle.bitset.proofs.RowLaws.{row_started}
+-- `start_row` meets its contract: the row with one number put in or taken out is written back. Assumes nothing.
+use Rattle.std.proofs.Common.{arith}
+use Rattle.bitset.proofs.RowLaws.{row_put, length_row}
+use Rattle.bitset.proofs.Marks.{length_toggled}
 use Rattle.bitset.proofs.matrix.start_row.Goals as goal
 
 pub returns : goal.returns
-returns c = row_started _ _ _ c.requires.c_bound c.requires.w_in_bounds
+returns c = grind (arith, row_put, length_row, length_toggled)

@@ -4,8 +4,8 @@ use Rattle.bitset.specs.Bits.{LargestIs}
 use Rattle.cone.proofs.Searches.{none_marked, last_marked}
 use Rattle.cone.proofs.marks.marks_end.Goals as goal
 
-pub returns-in-Nothing : goal.returns-in-Nothing
-returns-in-Nothing c = none_marked _ (subst (LargestIs _) c.in-Nothing.is c.largest-last.ensures)
+pub returns-in-Some : goal.returns-in-Some
+returns-in-Some c = last_marked _ _ (subst (LargestIs _) c.in-Some.is c.largest.ensures)
 
-pub returns-in-Cell : goal.returns-in-Cell
-returns-in-Cell c = last_marked _ _ (subst (LargestIs _) c.in-Cell.is c.largest-last.ensures)
+pub returns-in-None : goal.returns-in-None
+returns-in-None c = none_marked _ (subst (LargestIs _) c.in-None.is c.largest.ensures)
