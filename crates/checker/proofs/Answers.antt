@@ -1,5 +1,5 @@
--- The answer as a whole: what a refusal and an acceptance hold beside the verdict.
--- What carries it: the verdict decides whether the numbers are counted or 0. Assumes nothing.
+-- The answer as a whole: the counted numbers on acceptance, and on a refusal the refusal alone.
+-- What carries it: the verdict decides which of the two is answered. Assumes nothing.
 use mathlib.Core.Path.{◌≡◌, refl, sym, ap, ap₂, ◌∙◌}
 use mathlib.Core.List.{List}
 use Prim.Native.Nat.{ℕ, suc, ◌+◌, ◌-◌, ◌≤◌, ◌<◌}

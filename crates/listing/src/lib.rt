@@ -22,7 +22,8 @@ fn same_numbers()
 {}
 
 // Puts the line of a refusal in front, and answers its length.
-fn put_line(why: Refusal, target: &mut [u8; sketch::LONGEST]) -> usize
+fn put_line(why: Refusal, target: &mut [u8]) -> usize
+    requires { length target.old ≡ longest }
     ensures line { take result target.new ≡ refused_line (number_of why) }
     ensures short { result ≤ longest }
 {
@@ -34,7 +35,8 @@ fn put_line(why: Refusal, target: &mut [u8; sketch::LONGEST]) -> usize
 }
 
 // Takes the list into a blank table, and puts its sketch file in front; the answer is the file's length.
-fn convert(text: &[u8], target: &mut [u8; sketch::LONGEST]) -> Result<usize, Refusal>
+fn convert(text: &[u8], target: &mut [u8]) -> Result<usize, Refusal>
+    requires { length target.old ≡ longest }
     ensures { Converted text.now result target.new }
 {
     if text.len() > LONGEST_TEXT {
@@ -46,7 +48,8 @@ fn convert(text: &[u8], target: &mut [u8; sketch::LONGEST]) -> Result<usize, Ref
 }
 
 // What is written for a text, in front of the target; the answer is its length.
-pub fn listing(text: &[u8], target: &mut [u8; sketch::LONGEST]) -> usize
+pub fn listing(text: &[u8], target: &mut [u8]) -> usize
+    requires { length target.old ≡ longest }
     ensures lists { Lists text.now (take result target.new) }
     ensures short { result ≤ longest }
 {

@@ -8,6 +8,16 @@ use Rattle.table.specs.Kind.{capacity}
 use Rattle.rows.specs.Rows.{row_width, evidence_words, row_of}
 use Rattle.reducer.specs.Rule.{Additions, LargestOf, alone, empty_row}
 
+-- Tables whose rows have one word, and those whose rows have up to four: the most cells of each.
+abbrev pub small : ℕ
+small = bits
+
+abbrev pub middle_words : ℕ
+middle_words = 4
+
+abbrev pub middle : ℕ
+middle = middle_words * bits
+
 -- the words x are the boundary of the row y
 pub record Bounds (K : Cells) (x y : List ℕ) : Type 0 where
   pub same : (s : ℕ) → member x s ≡ boundary K (member y) s

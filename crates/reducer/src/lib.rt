@@ -8,7 +8,7 @@ ghost use Rattle.bitset.specs.Bits.{bits, full_width};
 ghost use Rattle.rows.specs.Rows.{row_width, evidence_words};
 ghost use Rattle.rows.specs.Seen.{cells_of};
 ghost use Rattle.reducer.specs.Reduce.{Reduces, Reduction, reduce_verdict};
-ghost use Rattle.reducer.specs.Work.{Roomy, Ready, Begun, Finished, Blank, Fresh};
+ghost use Rattle.reducer.specs.Work.{small, middle_words, middle, Roomy, Ready, Begun, Finished, Blank, Fresh};
 
 use calls::Refusal;
 use rows::view::View;
@@ -169,3 +169,12 @@ pub fn reduce(
     fill(View { words: t }, evidence, additions);
     Ok(())
 }
+
+// The numbers of the code are those of the definitions.
+fn same_numbers()
+    ensures value { SMALL ≡ small }
+    ensures middle_words_value { MIDDLE_WORDS ≡ middle_words }
+    ensures value_2 { MIDDLE ≡ middle }
+    ensures middle_kept_value { MIDDLE_KEPT ≡ middle * middle_words }
+    ensures large_kept_value { LARGE_KEPT ≡ capacity * full_width }
+{}

@@ -15,7 +15,7 @@ use Rattle.complex.specs.Cells.{cells}
 use Rattle.table.specs.Kind.{dimensions}
 use Rattle.sketch.proofs.Pieces.{pieces_cong}
 use Rattle.report.specs.Lines.{line, lines_of, room}
-use Rattle.report.specs.Text.{text_of, rest_of, ZerosAfter}
+use Rattle.report.specs.Text.{text_of, rest_of, ZerosAfter, IsWhole}
 use Rattle.report.specs.declared.text.Text.TheInside.{Inside}
 use Rattle.report.specs.Report.{table_in, file_verdict, HoleLines, Reports}
 
@@ -58,3 +58,12 @@ one_text f x y a p b q =
       sym (text_long x p.0 p.1) ∙ ap length e ∙ text_long y q.0 q.1,
       bytes_are x p.0 p.1 ∙ ap (λ (l : List ℕ). l ++ replicate (room - length l) 0) e ∙ sym (bytes_are y q.0 q.1),
     )
+
+-- the same, said of what every `Text` keeps and of the list that it is seen as
+shorter : (x : Inside) → IsWhole x → length (text_of x) < room → x.len < room
+shorter x w h = omega (arith, length-take-le x.len x.bytes (omega (arith, w.inside, w.sized)))
+
+pub one_whole_text :
+    (f : List ℕ) (x y : Inside) → IsWhole x → Reports f (text_of x) → length (text_of x) < room → IsWhole y → Reports f (text_of y) →
+    length (text_of y) < room → (x.len ≡ y.len) × (x.bytes ≡ y.bytes)
+one_whole_text f x y w a p v b q = one_text f x y a (shorter x w p, w.zeros) b (shorter y v q, v.zeros)

@@ -17,7 +17,7 @@ mod text;
 use calls::Refusal;
 use checker::Counts;
 use table::Table;
-pub use text::Text;
+pub use text::{ROOM, Text};
 
 // The seven lines.
 #[tactic(auto, using(crate::proofs::Growing::lengths, sketch::proofs::Pieces::pieces_zero, sketch::proofs::Pieces::pieces_more), unfolding(crate::specs::Lines::lines_of))]

@@ -6,7 +6,7 @@ use std::convert::AsSlice;
 use std::marker::Model;
 
 // The bytes that a text has room for: the seven lines take no more.
-const ROOM: usize = 96;
+pub const ROOM: usize = 96;
 
 // The first `len` bytes, and 0 in every byte after them. A contract sees the text: the list of its bytes.
 #[derive(Drop)]

@@ -28,6 +28,15 @@ pub fn lengths_fit(t: &[u16], evidence: &[u64]) -> bool
     evidence.len() == n * bitset::words_for(n)
 }
 
+// Row c of the evidence, where it lies.
+pub fn row<'a>(t: &[u16], evidence: &'a [u64], c: usize) -> &'a [u64]
+    requires evidence_len { length evidence.now ≡ evidence_words (cells t.now) }
+    requires c_bound { c < (cells t.now).size }
+    ensures { result.now ≡ row_of (cells t.now) evidence.now c }
+{
+    bitset::row(evidence, c, bitset::words_for(view::size(t)))
+}
+
 // Evidence of the length for a table: a row of words for each number.
 #[derive(Clone, Copy)]
 pub struct Evidence<'a> {
@@ -44,7 +53,7 @@ impl<'a> Evidence<'a> {
         requires { c < (cells_of self.view).size }
         ensures { result.now ≡ row_of (cells_of self.entry.view) self.entry.words.now c }
     {
-        bitset::row(self.words, c, bitset::words_for(self.view.size()))
+        row(self.view.words, self.words, c)
     }
 
     // The boundary mod 2 of a row whose cells are live: every pair of a cell in the row and a face place counted.

@@ -6,14 +6,17 @@
 ghost use Rattle.std.specs.Prelude.{◌≡◌, ◌≤◌, ◌<◌, ℕ, length, take, drop, Ok, Some, None, IfOk, OnOk, IsErrOf};
 ghost use Rattle.std.specs.Io.KnownBytes.{Appends, Consumes, IsAtEnd, Keeps};
 ghost use Rattle.stdio.specs.Read.{turn_of, Further, HasRead};
-ghost use Rattle.stdio.specs.Answer.{told, IsMadeOf};
+ghost use Rattle.stdio.specs.Answer.{told, line_of, IsMadeOf};
 
 use std::convert::AsSlice;
-use std::fmt;
+use std::fmt::{self, InlineText, Write as _};
 use std::fs::{self, File};
 use std::io::{self, ErrorKind, Read, Write};
 
 const OUTPUT: &str = "/dev/stdout";
+
+// The most bytes of a line that is told in one write.
+const LINE: usize = 1024;
 
 // Why there is no answer, or no whole one.
 #[derive(Drop)]
@@ -33,25 +36,32 @@ impl fmt::Display for Failure {
     }
 }
 
-// Standard output, which asks the disk when it is flushed, since it may say only then that it is full.
+// A writer whose bytes go to standard output: what it is given goes to the writer, and a flush asks the disk too, since that may say only
+// then that it is full.
 #[derive(Drop)]
-struct Output(HostRuntime);
+struct Output<W> {
+    rt: HostRuntime,
+    to: W,
+}
 
-impl Write for Output {
+impl<W: Write> Write for Output<W> {
+    ghost contents = { λ output. W.contents output.to };
+
     fn write(&mut self, bytes: &[u8]) -> io::Result<usize> {
-        self.0.stdout().write(bytes)
+        self.to.write(bytes)
     }
 
     // Standard output has no call of its own for this, so its file is opened by that name. Only a file can say no: a pipe or a terminal has
     // no disk to be asked.
     fn flush(&mut self) -> io::Result<()> {
-        let Ok(about) = fs::metadata(&self.0, OUTPUT) else {
+        self.to.flush()?;
+        let Ok(about) = fs::metadata(&self.rt, OUTPUT) else {
             return Ok(());
         };
         if !about.is_file() {
             return Ok(());
         }
-        let Ok(file) = File::open(&self.0, OUTPUT) else {
+        let Ok(file) = File::open(&self.rt, OUTPUT) else {
             return Ok(());
         };
         match file.sync_all() {
@@ -136,6 +146,18 @@ pub fn answer<R: Read, W: Write, T: AsSlice<u8> + Drop, F: FnOnce(&[u8]) -> T>(
     write_all(to, made.as_slice()).map_err(|_| Failure::Unwritten)
 }
 
+// Tells of a failure in one line. It is made first, so that one write takes it, and the loop above writes it: `eprintln!` would try again
+// after a signal. Only a name that has no room in the line goes out in pieces.
+fn tell<W: Write>(to: &mut W, name: &str, why: &Failure) -> io::Result<()>
+    ensures { OnOk result (Appends (W.contents to.old) (W.contents to.new) (line_of name.now why.now)) }
+{
+    let mut line = InlineText::<LINE>::new();
+    match writeln!(line, "{name}: {why}") {
+        Ok(()) => write_all(to, line.as_str().as_bytes()),
+        Err(_) => writeln!(to, "{name}: {why}"),
+    }
+}
+
 // Answers what stands on standard input by what is made of it. The buffer holds what is read, and one byte more than the longest input, so
 // that a longer one is seen to be too long. What fails is told in a line on standard error.
 pub fn run<T: AsSlice<u8> + Drop, F: FnOnce(&[u8]) -> T>(
@@ -146,8 +168,12 @@ pub fn run<T: AsSlice<u8> + Drop, F: FnOnce(&[u8]) -> T>(
 )
     requires { F.IsAlwaysCallable make }
 {
-    if let Err(failure) = answer(&mut rt.stdin(), &mut Output(rt), buf, make) {
+    let mut to = Output {
+        rt,
+        to: rt.stdout(),
+    };
+    if let Err(failure) = answer(&mut rt.stdin(), &mut to, buf, make) {
         // Where that fails too, there is nobody left to tell.
-        let _ = eprintln!(rt; "{name}: {failure}");
+        let _ = tell(&mut rt.stderr(), name, &failure);
     }
 }

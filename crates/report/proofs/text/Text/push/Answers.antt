@@ -7,4 +7,8 @@ use Rattle.report.proofs.text.Text.push.Goals as goal
 pub invariant_of-self : goal.invariant_of-self
 invariant_of-self c =
     let old = c.self.inside in
-    record { inside = search rules; zeros = drop-set-lt (old.len + 1) old.bytes old.len _ (omega arith) ∙ zeros_on _ old.len _ (omega arith) c.self.invariant.zeros }
+    record {
+      sized = search rules;
+      inside = search rules;
+      zeros = drop-set-lt (old.len + 1) old.bytes old.len _ (omega arith) ∙ zeros_on _ old.len _ (omega arith) c.self.invariant.zeros;
+    }
